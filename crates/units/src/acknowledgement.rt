@@ -1,0 +1,44 @@
+// Acknowledgement units.
+ghost use mathlib.Core.Bool.{cond, _&&_};
+ghost use mathlib.Core.Path.{_≡_};
+ghost use Prim.Native.Nat.{_^_};
+ghost use lib.Dec.{ltb};
+ghost use Rattle.std.specs.declared.result.Result.the-variants.{Ok, Err};
+ghost use Rattle.units.specs.Acknowledgement.{acuOf};
+ghost use Rattle.units.specs.Fields.{bits};
+ghost use Rattle.units.specs.Refusals.{answered};
+ghost use Rattle.units.specs.Signals.{fieldsOf};
+use super::parts::Acu;
+use super::parts::Content;
+use super::refusals::Refusal;
+
+impl Acu {
+    /// An ACU from its fields: eleven indicators as a number, the first unit's highest (0 accepted, 1 not), the number of the
+    /// block acknowledged, and the number of its own block. A field that is too large is refused.
+    pub fn new(indicators: u32, acknowledged: u32, number: u32) -> Result<Acu, Refusal>
+        ensures { λ r. ⌜ answered fieldsOf r ≡ cond
+            (ltb indicators (2 ^ 11) && ltb acknowledged (2 ^ 3) && ltb number (2 ^ 3))
+            (Ok (indicators, acknowledged, number))
+            (Err 4) ⌝ }
+    {
+        if indicators >= 1 << 11 || acknowledged >= 1 << 3 || number >= 1 << 3 {
+            return Err(Refusal::OutOfRange);
+        }
+        Ok(Acu {
+            indicators,
+            acknowledged,
+            number,
+        })
+    }
+
+    /// The content of the ACU.
+    pub fn content(self) -> Content
+        ensures value { λ r. ⌜ r .value ≡ acuOf (self .indicators) (self .acknowledged) (self .number) ⌝ }
+        ensures layout { λ r. ⌜ (bits 1 3 (r .value) ≡ 0b011) × (bits 4 14 (r .value) ≡ self .indicators)
+            × (bits 15 17 (r .value) ≡ self .acknowledged) × (bits 18 20 (r .value) ≡ self .number) ⌝ }
+    {
+        Content {
+            value: (0b011 << 17) + (self.indicators << 6) + (self.acknowledged << 3) + self.number,
+        }
+    }
+}
