@@ -1,22 +1,9 @@
 -- What the values of the code stand for.
 use Prim.Native.Nat.{ℕ}
-use Rattle.std.specs.declared.option.Option.{Option}
-use Rattle.std.specs.declared.option.Option.the-variants.{Some, None}
+use Rattle.units.specs.Acknowledgement.{acuOf}
 use Rattle.units.specs.Reserved.{CodeNumbers}
 use Rattle.units.specs.declared.parts.Acu.{Acu}
 use Rattle.units.specs.declared.parts.Codes.{Codes}
-use Rattle.units.specs.declared.parts.Content.{Content}
-use Rattle.units.specs.declared.words.Reading.{Reading}
-use Rattle.units.specs.declared.words.Reading.the-variants.{Good, Spoiled}
-
--- A content is a number.
-abbrev pub valueOf : Content → ℕ
-valueOf c = c .value
-
--- A reading is a content, or nothing where the number is spoiled.
-abbrev pub seen : Reading → Option ℕ
-seen (Good c) = Some (c .value)
-seen Spoiled = None
 
 -- Codes are four numbers.
 abbrev pub codesOf : Codes → CodeNumbers
@@ -30,3 +17,7 @@ codesOf k = record {
 -- An ACU is its three fields: the indicators, the number of the block acknowledged, and the number of its own block.
 abbrev pub fieldsOf : Acu → ℕ × ℕ × ℕ
 fieldsOf a = (a .indicators, a .acknowledged, a .number)
+
+-- The content of an ACU.
+abbrev pub acuContent : Acu → ℕ
+acuContent a = acuOf (a .indicators) (a .acknowledged) (a .number)

@@ -4,13 +4,12 @@ ghost use mathlib.Core.Path.{_≡_};
 ghost use Prim.Native.Nat.{_^_};
 ghost use lib.Dec.{ltb};
 ghost use Rattle.std.specs.declared.result.Result.the-variants.{Ok, Err};
-ghost use Rattle.units.specs.Acknowledgement.{acuOf};
 ghost use Rattle.units.specs.Fields.{bits};
-ghost use Rattle.units.specs.Refusals.{answered};
-ghost use Rattle.units.specs.Signals.{fieldsOf};
+ghost use Rattle.units.specs.Signals.{fieldsOf, acuContent};
+ghost use Rattle.words.specs.Refusals.{answered};
 use super::parts::Acu;
-use super::parts::Content;
-use super::refusals::Refusal;
+use words::Content;
+use words::Refusal;
 
 impl Acu {
     /// An ACU from its fields: eleven indicators as a number, the first unit's highest (0 accepted, 1 not), the number of the
@@ -33,12 +32,11 @@ impl Acu {
 
     /// The content of the ACU.
     pub fn content(self) -> Content
-        ensures value { λ r. ⌜ r .value ≡ acuOf (self .indicators) (self .acknowledged) (self .number) ⌝ }
+        ensures value { λ r. ⌜ r .value ≡ acuContent self ⌝ }
         ensures layout { λ r. ⌜ (bits 1 3 (r .value) ≡ 0b011) × (bits 4 14 (r .value) ≡ self .indicators)
             × (bits 15 17 (r .value) ≡ self .acknowledged) × (bits 18 20 (r .value) ≡ self .number) ⌝ }
     {
-        Content {
-            value: (0b011 << 17) + (self.indicators << 6) + (self.acknowledged << 3) + self.number,
-        }
+        let bits = (0b011 << 17) + (self.indicators << 6) + (self.acknowledged << 3) + self.number;
+        Content::new(bits).unwrap()
     }
 }

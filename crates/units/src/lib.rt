@@ -1,14 +1,7 @@
-// Signal units: contents and their words, reserved contents, acknowledgement units, and the refusals of every call.
+// Signal units with a meaning of their own: reserved contents, synchronization units and acknowledgement units.
 mod acknowledgement;
 mod parts;
-mod refusals;
 mod reserved;
-mod words;
 
 pub use parts::Acu;
 pub use parts::Codes;
-pub use parts::Content;
-pub use refusals::Refusal;
-pub use words::Reading;
-pub use words::invert_last_bit;
-pub use words::read;

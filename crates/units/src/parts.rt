@@ -1,16 +1,10 @@
-// What a content, the codes and an acknowledgement unit are made of. Their methods stand in other files, since the
+// What the codes and an acknowledgement unit are made of. Their methods stand in other files, since the
 // definitions that the methods' contracts cite name these types.
 ghost use mathlib.Core.Bool.{true};
 ghost use mathlib.Core.Path.{_≡_};
 ghost use Prim.Native.Nat.{_^_, _<_};
 ghost use Rattle.units.specs.Reserved.{apart};
-
-/// The content of a signal unit: a number of twenty bits.
-#[derive(Clone, Copy, Debug, PartialEq, Eq)]
-pub struct Content {
-    pub(crate) value: u32,
-    ghost short: { value < 2 ^ 20 },
-}
+use words::Content;
 
 /// The contents of the three control signals, and the synchronization pattern. No two of the contents are equal, and none
 /// begins with the pattern.
@@ -20,6 +14,7 @@ pub struct Codes {
     pub(crate) load_transfer: Content,
     pub(crate) acknowledgement: Content,
     pub(crate) pattern: u16,
+    ghost narrow: { pattern < 2 ^ 16 },
     ghost apart: { apart (record {
       changeover = changeover .value;
       load-transfer = «load_transfer» .value;

@@ -5,18 +5,19 @@ ghost use lib.Dec.{leb};
 ghost use Rattle.std.specs.Vec.{made};
 ghost use Rattle.std.specs.declared.result.Result.the-variants.{Ok, Err};
 ghost use Rattle.units.specs.Fields.{bits};
-ghost use Rattle.units.specs.Refusals.{answered};
 ghost use Rattle.units.specs.Reserved.{apart, acceptable, beginsWith, reserved, syuOf};
-ghost use Rattle.units.specs.Signals.{valueOf, codesOf};
+ghost use Rattle.units.specs.Signals.{codesOf};
+ghost use Rattle.words.specs.Refusals.{answered};
+ghost use Rattle.words.specs.Seen.{valueOf};
 use super::parts::Codes;
-use super::parts::Content;
-use super::refusals::Refusal;
+use words::Content;
+use words::Refusal;
 
 // Whether the first sixteen bits of a content are the pattern.
 fn begins_with(pattern: u16, content: Content) -> bool
     ensures { λ r. ⌜ r ≡ beginsWith pattern (content .value) ⌝ }
 {
-    content.value >> 4 == u32::from(pattern)
+    content.value() >> 4 == u32::from(pattern)
 }
 
 // Whether no two of the contents are equal, and none begins with the pattern.
@@ -33,9 +34,9 @@ fn are_apart(
       pattern = pattern;
     }) ⌝ }
 {
-    changeover.value != load_transfer.value
-        && load_transfer.value != acknowledgement.value
-        && acknowledgement.value != changeover.value
+    changeover.value() != load_transfer.value()
+        && load_transfer.value() != acknowledgement.value()
+        && acknowledgement.value() != changeover.value()
         && !begins_with(pattern, changeover)
         && !begins_with(pattern, load_transfer)
         && !begins_with(pattern, acknowledgement)
@@ -82,9 +83,9 @@ impl Codes {
     pub fn reserves(self, content: Content) -> bool
         ensures { λ r. ⌜ r ≡ reserved (codesOf self) (content .value) ⌝ }
     {
-        content.value == self.changeover.value
-            || content.value == self.load_transfer.value
-            || content.value == self.acknowledgement.value
+        content.value() == self.changeover.value()
+            || content.value() == self.load_transfer.value()
+            || content.value() == self.acknowledgement.value()
             || begins_with(self.pattern, content)
     }
 

@@ -2,9 +2,9 @@ use mathlib.Core.Path.{_≡_, sym, ap, subst, _∙_}
 use Prim.Native.Nat.{_%_, _^_}
 use native.Mathlib.Omega.{arith}
 use Rattle.polynomials.specs.Polynomial.{times, OnlyRemainder}
-use Rattle.units.specs.Words.{inverted, wordOf, readingOf}
-use Rattle.units.proofs.Making.{word-reads, word-divides, read-made}
-use Rattle.units.proofs.words.joined.Needs as need
+use Rattle.words.specs.Word.{inverted, wordOf, readingOf}
+use Rattle.words.proofs.Making.{word-reads, word-divides, read-made}
+use Rattle.words.proofs.codec.joined.Needs as need
 
 pub returns : need.returns
 returns c =

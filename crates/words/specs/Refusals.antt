@@ -2,8 +2,8 @@
 use Prim.Native.Nat.{ℕ}
 use Rattle.std.specs.declared.result.Result.{Result}
 use Rattle.std.specs.declared.result.Result.the-variants.{Ok, Err}
-use Rattle.units.specs.declared.refusals.Refusal.{Refusal}
-use Rattle.units.specs.declared.refusals.Refusal.the-variants.{OutOfTurn, Settings, DelaysTooLong, OutOfRange, WrongLength, ReservedContent, LimitPassed, HoldFull, NothingThere, BlockFull}
+use Rattle.words.specs.declared.refusals.Refusal.{Refusal}
+use Rattle.words.specs.declared.refusals.Refusal.the-variants.{OutOfTurn, Settings, DelaysTooLong, OutOfRange, WrongLength, ReservedContent, LimitPassed, HoldFull, NothingThere, BlockFull}
 
 -- The table of refusals. Where several apply to one call, the lowest number decides.
 abbrev pub numberOf : Refusal → ℕ

@@ -1,6 +1,6 @@
 // The refusals of every call.
 ghost use mathlib.Core.Path.{_≡_};
-ghost use Rattle.units.specs.Refusals.{numberOf};
+ghost use Rattle.words.specs.Refusals.{numberOf};
 
 /// Why a call was refused. A refused call alters nothing.
 #[derive(Clone, Copy, Debug, PartialEq, Eq)]

@@ -10,7 +10,7 @@ use Rattle.std.specs.declared.option.Option.the-variants.{Some, None}
 use Rattle.polynomials.specs.Polynomial.{times, OnlyRemainder}
 use Rattle.polynomials.specs.Remainder.{first, remainderOf}
 use Rattle.polynomials.proofs.Division.{divides, divides-only}
-use Rattle.units.specs.Words.{inverted, checkOf, wordOf, checks, readingOf, lastBitInverted}
+use Rattle.words.specs.Word.{inverted, checkOf, wordOf, checks, readingOf, lastBitInverted}
 
 -- a check has eight bits
 check-below : (content : ℕ) → content < 2 ^ 20 → checkOf content < 2 ^ 8
@@ -21,13 +21,13 @@ inverted-twice : (byte : ℕ) → inverted (inverted byte) ≡ byte
 inverted-twice byte = xor-assoc byte 0xff 0xff ∙ xor-zero-r byte
 
 module _ (content : ℕ) (short : content < 2 ^ 20) where
-  word-content : wordOf content / 2 ^ 8 ≡ content
+  pub word-content : wordOf content / 2 ^ 8 ≡ content
   word-content = let h = check-below content short in omega arith
 
   word-check : wordOf content % 2 ^ 8 ≡ checkOf content
   word-check = let h = check-below content short in omega arith
 
-  word-checks : checks (wordOf content) ≡ true
+  pub word-checks : checks (wordOf content) ≡ true
   word-checks =
       let h = check-below content short in
       let fit : wordOf content % 2 ^ 8 ≡ checkOf (wordOf content / 2 ^ 8) = word-check ∙ ap checkOf (sym word-content) in

@@ -4,9 +4,9 @@ use native.Mathlib.Omega.{arith}
 use Rattle.polynomials.specs.Polynomial.{times, OnlyRemainder}
 use Rattle.polynomials.specs.Remainder.{first, remainderOf}
 use Rattle.polynomials.proofs.Division.{divides, divides-only, remainder-none, next-low, next-high}
-use Rattle.units.specs.declared.parts.Content.{Content}
-use Rattle.units.proofs.words.+remainder_of_first.Needs as need
-use Rattle.units.proofs.words.+remainder_of_first.Needs.{Else-sum-lt-X8}
+use Rattle.words.specs.declared.parts.Content.{Content}
+use Rattle.words.proofs.codec.+remainder_of_first.Needs as need
+use Rattle.words.proofs.codec.+remainder_of_first.Needs.{Else-sum-lt-X8}
 
 -- the remainder as it is worked out is that of the division
 stands : (content : Content) (n r : ℕ) → n ≤ 20 → r ≡ remainderOf (content .value) n → OnlyRemainder (times (first n (content .value)) (2 ^ 8)) r

@@ -1,0 +1,7 @@
+use mathlib.Core.Path.{refl}
+use Rattle.polynomials.specs.Remainder.{remainderOf}
+use Rattle.words.proofs.examples.read_examples.Needs as need
+
+pub returns : need.returns
+unfolding remainderOf
+returns c = record { definitions = refl; read = cc }

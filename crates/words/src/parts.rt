@@ -1,0 +1,9 @@
+// What a content is. Its methods stand in another file, since the definitions that their contracts cite name this type.
+ghost use Prim.Native.Nat.{_^_, _<_};
+
+/// The content of a signal unit: a number of twenty bits.
+#[derive(Clone, Copy, Debug, PartialEq, Eq)]
+pub struct Content {
+    pub(crate) value: u32,
+    ghost short: { value < 2 ^ 20 },
+}
