@@ -16,9 +16,9 @@ use Rattle.std.proofs.shelf.Lists.{ext-getD, getD-append-left, getD-append-righ
 use Rattle.std.proofs.shelf.Tests.{and-from, eq-eqb}
 use Rattle.units.specs.Reserved.{syuOf}
 use Rattle.words.specs.Seen.{valueOf}
-use Rattle.words.specs.Word.{wordOf, readingOf}
+use Rattle.coding.specs.Word.{wordOf, readingOf}
 use Rattle.words.specs.declared.parts.Content.{Content}
-use Rattle.words.proofs.Making.{word-checks, word-content, word-reads}
+use Rattle.coding.proofs.Making.{word-checks, word-content, word-reads}
 use Rattle.blocks.specs.Block.{contentsOf, blockOf, allCheck, isAcu, sound}
 use Rattle.blocks.specs.Put.{contentsIn}
 use Rattle.blocks.specs.declared.parts.OpenBlock.{OpenBlock}
@@ -67,7 +67,6 @@ pub few : (b : OpenBlock) → length (contentsIn b) ≤ 11
 few b = let e = contents-length b in let f = b .few in omega arith
 
 module _ (b : OpenBlock) (acu i : ℕ) where
-
   -- what was put, as an element of the block's array
   pub put-there : (x : Content) → i < b .count → getD (b .contents) i x .value ≡ getD (contentsOf (b .codes .pattern) (contentsIn b) acu) i 0
   put-there x h =

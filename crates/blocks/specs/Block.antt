@@ -9,7 +9,7 @@ use Rattle.std.specs.declared.result.Result.{Result}
 use Rattle.std.specs.declared.result.Result.the-variants.{Ok, Err}
 use Rattle.units.specs.Fields.{bits}
 use Rattle.units.specs.Reserved.{syuOf}
-use Rattle.words.specs.Word.{wordOf, checks}
+use Rattle.coding.specs.Word.{wordOf, checks}
 
 -- Putting one content more into an open block: what then stands in it, or the number of the refusal. A content from 2^20 on
 -- is out of its range, and then a block with eleven contents is full.

@@ -11,7 +11,7 @@ ghost use Rattle.blocks.specs.Block.{putting, contentsOf, blockOf, isAcu, soun
 ghost use Rattle.blocks.specs.Put.{contentsIn};
 ghost use Rattle.units.specs.Signals.{acuContent};
 ghost use Rattle.words.specs.Refusals.{answered};
-ghost use Rattle.words.specs.Word.{readingOf};
+ghost use Rattle.coding.specs.Word.{readingOf};
 use super::parts::ClosedBlock;
 use super::parts::OpenBlock;
 use units::Acu;

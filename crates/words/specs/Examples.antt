@@ -6,7 +6,7 @@ use Prim.Native.Nat.{ℕ}
 use lib.Dec.{eqb}
 use Rattle.std.specs.declared.option.Option.{Option}
 use Rattle.std.specs.declared.option.Option.the-variants.{Some, None}
-use Rattle.words.specs.Word.{wordOf, checks}
+use Rattle.coding.specs.Word.{wordOf, checks}
 
 -- A number, and the content whose word it is, if it is one. 60015 is an acknowledgement unit with no indicator set, which
 -- acknowledges block 2 and stands in block 5.

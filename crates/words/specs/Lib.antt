@@ -1,4 +1,3 @@
 pub mod Examples
 pub mod Refusals
 pub mod Seen
-pub mod Word

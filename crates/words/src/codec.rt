@@ -6,18 +6,16 @@ ghost use lib.Dec.{ltb, leb};
 ghost use Rattle.std.specs.Vec.{made};
 ghost use Rattle.std.specs.declared.option.Option.the-variants.{Some, None};
 ghost use Rattle.std.specs.declared.result.Result.the-variants.{Ok, Err};
-ghost use Rattle.polynomials.specs.Polynomial.{times, OnlyRemainder};
-ghost use Rattle.polynomials.specs.Remainder.{first, remainderOf};
+ghost use Rattle.coding.specs.Polynomial.{times, OnlyRemainder};
+ghost use Rattle.coding.specs.Remainder.{first, remainderOf};
 ghost use Rattle.words.specs.Refusals.{answered};
 ghost use Rattle.words.specs.Seen.{valueOf, seen};
-ghost use Rattle.words.specs.Word.{inverted, checkOf, wordOf, checks, readingOf, lastBitInverted};
+ghost use Rattle.coding.specs.Word.{inverted, checkOf, wordOf, checks, readingOf, lastBitInverted};
 use super::parts::Content;
 use super::refusals::Refusal;
-use crate::parts::ContentDebug;
-use crate::parts::ContentPartialEq;
 
 /// What a number that arrived reads as.
-#[derive(Clone, Copy, Debug, PartialEq, Eq)]
+#[derive(Clone, Copy)]
 pub enum Reading {
     /// It checks, and carries this content.
     Good(Content),

@@ -2,7 +2,7 @@
 ghost use Prim.Native.Nat.{_^_, _<_};
 
 /// The content of a signal unit: a number of twenty bits.
-#[derive(Clone, Copy, Debug, PartialEq, Eq)]
+#[derive(Clone, Copy)]
 pub struct Content {
     pub(crate) value: u32,
     ghost short: { value < 2 ^ 20 },

@@ -3,7 +3,7 @@ ghost use mathlib.Core.Path.{_≡_};
 ghost use Rattle.words.specs.Refusals.{numberOf};
 
 /// Why a call was refused. A refused call alters nothing.
-#[derive(Clone, Copy, Debug, PartialEq, Eq)]
+#[derive(Clone, Copy)]
 pub enum Refusal {
     /// A call before opening, or a second opening.
     OutOfTurn = 1,

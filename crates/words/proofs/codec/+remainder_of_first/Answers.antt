@@ -1,9 +1,9 @@
 use mathlib.Core.Path.{_≡_, sym, subst, _∙_}
 use Prim.Native.Nat.{ℕ, _≤_, _^_}
 use native.Mathlib.Omega.{arith}
-use Rattle.polynomials.specs.Polynomial.{times, OnlyRemainder}
-use Rattle.polynomials.specs.Remainder.{first, remainderOf}
-use Rattle.polynomials.proofs.Division.{divides, divides-only, remainder-none, next-low, next-high}
+use Rattle.coding.specs.Polynomial.{times, OnlyRemainder}
+use Rattle.coding.specs.Remainder.{first, remainderOf}
+use Rattle.coding.proofs.Division.{divides, divides-only, remainder-none, next-low, next-high}
 use Rattle.words.specs.declared.parts.Content.{Content}
 use Rattle.words.proofs.codec.+remainder_of_first.Needs as need
 use Rattle.words.proofs.codec.+remainder_of_first.Needs.{Else-sum-lt-X8}

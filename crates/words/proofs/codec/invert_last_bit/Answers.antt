@@ -1,5 +1,5 @@
 use mathlib.Core.Path.{refl}
-use Rattle.words.proofs.Making.{inverted-spoils}
+use Rattle.coding.proofs.Making.{inverted-spoils}
 use Rattle.words.proofs.codec.invert_last_bit.Needs as need
 
 pub returns : need.returns

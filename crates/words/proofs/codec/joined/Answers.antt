@@ -1,9 +1,9 @@
 use mathlib.Core.Path.{_≡_, sym, ap, subst, _∙_}
 use Prim.Native.Nat.{_%_, _^_}
 use native.Mathlib.Omega.{arith}
-use Rattle.polynomials.specs.Polynomial.{times, OnlyRemainder}
-use Rattle.words.specs.Word.{inverted, wordOf, readingOf}
-use Rattle.words.proofs.Making.{word-reads, word-divides, read-made}
+use Rattle.coding.specs.Polynomial.{times, OnlyRemainder}
+use Rattle.coding.specs.Word.{inverted, wordOf, readingOf}
+use Rattle.coding.proofs.Making.{word-reads, word-divides, read-made}
 use Rattle.words.proofs.codec.joined.Needs as need
 
 pub returns : need.returns

@@ -1,5 +1,5 @@
 use mathlib.Core.Path.{refl}
-use Rattle.polynomials.specs.Remainder.{remainderOf}
+use Rattle.coding.specs.Remainder.{remainderOf}
 use Rattle.words.proofs.examples.read_examples.Needs as need
 
 pub returns : need.returns

@@ -1,7 +1,7 @@
 use mathlib.Core.Path.{_≡_, sym, ap, subst, _∙_}
 use mathlib.Core.List.{map}
 use native.Mathlib.Omega.{arith}
-use Rattle.words.specs.Word.{wordOf, readingOf}
+use Rattle.coding.specs.Word.{wordOf, readingOf}
 use Rattle.blocks.specs.Block.{sound}
 use Rattle.blocks.specs.Put.{contentsIn}
 use Rattle.blocks.proofs.Places.{Filled, filled-more, filled-all, few, word-at, at-last, block-length, block-sound, block-reads}

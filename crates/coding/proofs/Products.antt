@@ -5,8 +5,8 @@ use native.Mathlib.Decide.{le-ind}
 use native.Mathlib.Nat.{pow-le-pow-right, two-pow-succ, zero-mul}
 use native.Mathlib.Omega.{arith}
 use lib.Bits.{bitXor, xor-comm, xor-lt, xor-mod, xor-self, xor-shr, xor-zero-r}
-use Rattle.polynomials.specs.Polynomial.{divisor, product, times}
-use Rattle.polynomials.proofs.Sums.{sum-shift, sum-moved, sum-crossed}
+use Rattle.coding.specs.Polynomial.{divisor, product, times}
+use Rattle.coding.proofs.Sums.{sum-shift, sum-moved, sum-crossed}
 
 -- ---- coefficients that are left out
 

@@ -1,3 +1,4 @@
 pub mod Division
+pub mod Making
 pub mod Products
 pub mod Sums

@@ -6,10 +6,10 @@ use native.Mathlib.Omega.{arith}
 use lib.Bits.{bitXor, xor-assoc, xor-comm, xor-lt, xor-shr, xor-zero-r}
 use Rattle.std.proofs.shelf.Bits.{shr-shr}
 use Rattle.std.proofs.shelf.Tests.{cases-lt, cond-above, cond-below}
-use Rattle.polynomials.specs.Polynomial.{divisor, product, times, Remains, OnlyRemainder}
-use Rattle.polynomials.specs.Remainder.{first, bit, reduced, remainderOf}
-use Rattle.polynomials.proofs.Products.{times-apart, times-more}
-use Rattle.polynomials.proofs.Sums.{sum-cancel, sum-moved, sum-shift}
+use Rattle.coding.specs.Polynomial.{divisor, product, times, Remains, OnlyRemainder}
+use Rattle.coding.specs.Remainder.{first, bit, reduced, remainderOf}
+use Rattle.coding.proofs.Products.{times-apart, times-more}
+use Rattle.coding.proofs.Sums.{sum-cancel, sum-moved, sum-shift}
 
 -- ---- no other
 

@@ -5,7 +5,7 @@ use lib.Bits.{bitXor}
 use lib.Dec.{ltb, eqb}
 use Rattle.std.specs.declared.option.Option.{Option}
 use Rattle.std.specs.declared.option.Option.the-variants.{Some, None}
-use Rattle.polynomials.specs.Remainder.{remainderOf}
+use Rattle.coding.specs.Remainder.{remainderOf}
 
 -- The eight bits with each of them inverted.
 abbrev pub inverted : ℕ → ℕ

@@ -3,7 +3,7 @@ use mathlib.Core.Bool.{cond}
 use Prim.Native.Nat.{ℕ, zero, suc, _-_, _*_, _/_, _%_, _^_}
 use lib.Bits.{bitXor}
 use lib.Dec.{ltb}
-use Rattle.polynomials.specs.Polynomial.{divisor}
+use Rattle.coding.specs.Polynomial.{divisor}
 
 -- The first n bits of a content, as a number; n is from 0 to 20.
 abbrev pub first : ℕ → ℕ → ℕ

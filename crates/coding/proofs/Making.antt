@@ -7,10 +7,10 @@ use lib.Bits.{bitXor, xor-assoc, xor-lt, xor-mod, xor-self, xor-shr, xor-zero-r}
 use Rattle.std.proofs.shelf.Tests.{cond-true}
 use Rattle.std.proofs.shelf.Ways.{tells}
 use Rattle.std.specs.declared.option.Option.the-variants.{Some, None}
-use Rattle.polynomials.specs.Polynomial.{times, OnlyRemainder}
-use Rattle.polynomials.specs.Remainder.{first, remainderOf}
-use Rattle.polynomials.proofs.Division.{divides, divides-only}
-use Rattle.words.specs.Word.{inverted, checkOf, wordOf, checks, readingOf, lastBitInverted}
+use Rattle.coding.specs.Polynomial.{times, OnlyRemainder}
+use Rattle.coding.specs.Remainder.{first, remainderOf}
+use Rattle.coding.proofs.Division.{divides, divides-only}
+use Rattle.coding.specs.Word.{inverted, checkOf, wordOf, checks, readingOf, lastBitInverted}
 
 -- a check has eight bits
 check-below : (content : ℕ) → content < 2 ^ 20 → checkOf content < 2 ^ 8
