@@ -15,8 +15,8 @@ codesOf k = record {
 }
 
 -- An ACU is its three fields: the indicators, the number of the block acknowledged, and the number of its own block.
-abbrev pub fieldsOf : Acu → ℕ × ℕ × ℕ
-fieldsOf a = (a .indicators, a .acknowledged, a .number)
+abbrev pub acuFields : Acu → ℕ × ℕ × ℕ
+acuFields a = (a .indicators, a .acknowledged, a .number)
 
 -- The content of an ACU.
 abbrev pub acuContent : Acu → ℕ

@@ -1,11 +1,8 @@
 // Acknowledgement units.
-ghost use mathlib.Core.Bool.{cond, _&&_};
 ghost use mathlib.Core.Path.{_≡_};
-ghost use Prim.Native.Nat.{_^_};
-ghost use lib.Dec.{ltb};
-ghost use Rattle.std.specs.declared.result.Result.the-variants.{Ok, Err};
+ghost use Rattle.units.specs.Acknowledgement.{acuFrom};
 ghost use Rattle.units.specs.Fields.{bits};
-ghost use Rattle.units.specs.Signals.{fieldsOf, acuContent};
+ghost use Rattle.units.specs.Signals.{acuFields, acuContent};
 ghost use Rattle.words.specs.Refusals.{answered};
 use super::parts::Acu;
 use words::Content;
@@ -15,10 +12,7 @@ impl Acu {
     /// An ACU from its fields: eleven indicators as a number, the first unit's highest (0 accepted, 1 not), the number of the
     /// block acknowledged, and the number of its own block. A field that is too large is refused.
     pub fn new(indicators: u32, acknowledged: u32, number: u32) -> Result<Acu, Refusal>
-        ensures { λ r. ⌜ answered fieldsOf r ≡ cond
-            (ltb indicators (2 ^ 11) && ltb acknowledged (2 ^ 3) && ltb number (2 ^ 3))
-            (Ok (indicators, acknowledged, number))
-            (Err 4) ⌝ }
+        ensures { λ r. ⌜ answered acuFields r ≡ acuFrom indicators acknowledged number ⌝ }
     {
         if indicators >= 1 << 11 || acknowledged >= 1 << 3 || number >= 1 << 3 {
             return Err(Refusal::OutOfRange);

@@ -1,0 +1,7 @@
+// One block sent and looked at: the order is read from three lines, the block passes, and what arrived is reported.
+mod orders;
+mod parts;
+
+pub use parts::Fault;
+pub use parts::Order;
+pub use parts::Trouble;
