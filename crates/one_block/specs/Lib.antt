@@ -1,2 +1,4 @@
 pub mod Complaint
 pub mod Order
+pub mod Passage
+pub mod Shown

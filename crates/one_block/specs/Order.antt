@@ -85,3 +85,22 @@ marksOfFields (Ok marks) (Ok u) = Ok marks
 -- The marks of the third line, the mark of place 1 the highest bit.
 abbrev pub marksLine : List ℕ → Result ℕ Complaint
 marksLine line = marksOfFields (numberAt 3 1 (Binary 12) (fieldsOf line)) (endAt 3 2 (behind (fieldsOf line)))
+
+-- ---- the order
+
+-- What an order holds: the contents put into the block, the three fields of its ACU, and the marks.
+pub record Ordered : Type 0 where
+  pub contents : List ℕ
+  pub acu : ℕ × ℕ × ℕ
+  pub marks : ℕ
+
+-- Of several complaints the first counts.
+abbrev pub orderOf : Result (List ℕ) Complaint → Result (ℕ × ℕ × ℕ) Complaint → Result ℕ Complaint → Result Ordered Complaint
+orderOf (Err e) acu marks = Err e
+orderOf (Ok contents) (Err e) marks = Err e
+orderOf (Ok contents) (Ok acu) (Err e) = Err e
+orderOf (Ok contents) (Ok acu) (Ok marks) = Ok (record { contents = contents; acu = acu; marks = marks })
+
+-- The order of three lines.
+abbrev pub orderFrom : List ℕ → List ℕ → List ℕ → Result Ordered Complaint
+orderFrom first second third = orderOf (contentsLine first) (acuLine second) (marksLine third)

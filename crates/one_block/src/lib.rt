@@ -1,7 +1,11 @@
 // One block sent and looked at: the order is read from three lines, the block passes, and what arrived is reported.
 mod orders;
 mod parts;
+mod passage;
 
+pub use orders::read_order;
+pub use parts::Arrival;
 pub use parts::Fault;
 pub use parts::Order;
+pub use parts::Report;
 pub use parts::Trouble;

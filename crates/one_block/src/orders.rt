@@ -2,7 +2,8 @@
 ghost use mathlib.Core.Path.{_≡_};
 ghost use Rattle.blocks.specs.Put.{contentsIn};
 ghost use Rattle.one_block.specs.Complaint.{heard, complaintOf};
-ghost use Rattle.one_block.specs.Order.{contentsLine, putField, readAs, numberAt, endAt, behind, acuLine, marksLine};
+ghost use Rattle.one_block.specs.Order.{contentsLine, putField, readAs, numberAt, endAt, behind, acuLine, marksLine, orderFrom};
+ghost use Rattle.one_block.specs.Shown.{orderShown};
 ghost use Rattle.std.specs.Vec.{made};
 ghost use Rattle.std.specs.declared.option.Option.the-variants.{Some, None};
 ghost use Rattle.std.specs.declared.result.Result.the-variants.{Ok, Err};
@@ -107,4 +108,16 @@ fn marks_line(line: &[u8]) -> Result<u32, Fault>
     let marks = next_number(&mut fields, 3, 1, Form::Binary(12))?;
     no_more(&mut fields, 3, 2)?;
     Ok(marks)
+}
+
+/// An order from its three lines: the contents in hexadecimal, the fields of the ACU, and the marks. The block is begun with
+/// the codes given.
+pub fn read_order(codes: Codes, contents: &[u8], acu: &[u8], marks: &[u8]) -> Result<Order, Fault>
+    ensures answer { λ r. ⌜ heard orderShown r ≡ orderFrom (now (contents .entry)) (now (acu .entry)) (now (marks .entry)) ⌝ }
+    ensures codes { λ r. ⌜ made r (λ order. order .block .codes ≡ codes) ⌝ }
+{
+    let block = contents_line(codes, contents)?;
+    let acu = acu_line(acu)?;
+    let marks = marks_line(marks)?;
+    Ok(Order { block, acu, marks })
 }

@@ -1,7 +1,10 @@
 // What an order and a fault in its lines are. The functions stand in other files, since the definitions that their contracts
 // cite name these types.
+ghost use lib.ListN.{length};
+ghost use mathlib.Core.Path.{_≡_};
 use blocks::OpenBlock;
 use units::Acu;
+use words::Reading;
 use words::Refusal;
 
 /// A block to be sent: what was put into it, its ACU, and the places at which the last bit is inverted on the way, as a number
@@ -30,6 +33,22 @@ pub struct Fault {
     pub(crate) line: u32,
     pub(crate) place: u32,
     pub(crate) trouble: Trouble,
+}
+
+/// What was seen at one place, 1 to 12: the number sent, the number that arrived, and what that reads as.
+#[derive(Clone, Copy)]
+pub struct Arrival {
+    pub(crate) place: u32,
+    pub(crate) sent: u32,
+    pub(crate) arrived: u32,
+    pub(crate) reading: Reading,
+}
+
+/// What was seen at the twelve places of a block.
+#[derive(Drop)]
+pub struct Report {
+    pub(crate) arrivals: [Arrival; 12],
+    ghost twelve: { length arrivals ≡ 12 },
 }
 
 // How the digits of a field make a number.

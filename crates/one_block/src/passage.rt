@@ -1,0 +1,77 @@
+// A block on its way, and what was seen of it.
+ghost use lib.ListN.{length};
+ghost use mathlib.Core.List.{List, map};
+ghost use mathlib.Core.Path.{_≡_};
+ghost use Prim.Native.Nat.{ℕ, _≤_};
+ghost use Rattle.blocks.specs.Block.{blockOf, contentsOf};
+ghost use Rattle.blocks.specs.Put.{contentsIn};
+ghost use Rattle.one_block.specs.Passage.{passageOf, passages, goods, goodIn, outcomes};
+ghost use Rattle.one_block.specs.Shown.{passageShown, readingIn};
+ghost use Rattle.coding.specs.Word.{readingOf};
+ghost use Rattle.std.specs.declared.option.Option.the-variants.{Some};
+ghost use Rattle.units.specs.Signals.{acuContent};
+ghost use Rattle.words.specs.Seen.{seen};
+use super::parts::Arrival;
+use super::parts::Order;
+use super::parts::Report;
+use words::Reading;
+use words::invert_last_bit;
+use words::read;
+
+// What is seen at a place where a word is sent.
+fn arrival(marks: u32, place: u32, word: u32) -> Arrival
+    requires { ⌜ place ≤ 12 ⌝ }
+    ensures { λ r. ⌜ passageShown r ≡ passageOf marks place word ⌝ }
+{
+    let arrived = if (marks >> (12 - place)) % 2 == 1 { invert_last_bit(word) } else { word };
+    Arrival { place, sent: word, arrived, reading: read(arrived) }
+}
+
+// Whether a place arrived good, as a count.
+fn good_at(reading: Reading) -> u32
+    ensures value { λ r. ⌜ r ≡ goods (seen reading) ⌝ }
+    ensures few { λ r. ⌜ r ≤ 1 ⌝ }
+{
+    match reading {
+        Reading::Good(_) => 1,
+        Reading::Spoiled => 0,
+    }
+}
+
+// What is seen at the twelve places of a block.
+fn arrivals(marks: u32, words: &[u32; 12]) -> [Arrival; 12]
+    ensures twelve { λ r. ⌜ length r ≡ 12 ⌝ }
+    ensures value { λ r. ⌜ map passageShown r ≡ passages marks (now (words .entry)) ⌝ }
+    ensures outcome { λ r. ⌜ ((contents : List ℕ) → map readingOf (now (words .entry)) ≡ map Some contents → map readingIn r ≡ outcomes marks contents) ⌝ }
+{
+    let mut arrivals = [arrival(marks, 1, words[0]); 12];
+    for i in 1..12 {
+        arrivals[i] = arrival(marks, i as u32 + 1, words[i]);
+    }
+    arrivals
+}
+
+impl Order {
+    /// Sends the block, inverts the last bit at each marked place, and reads what arrives.
+    pub fn pass(self) -> Report
+        ensures seen { λ r. ⌜ map passageShown (r .arrivals) ≡ passages (self .marks) (blockOf (self .block .codes .pattern) (contentsIn (self .block)) (acuContent (self .acu))) ⌝ }
+        ensures outcome { λ r. ⌜ map readingIn (r .arrivals) ≡ outcomes (self .marks) (contentsOf (self .block .codes .pattern) (contentsIn (self .block)) (acuContent (self .acu))) ⌝ }
+    {
+        let Order { block, acu, marks } = self;
+        let words = block.close(acu).send();
+        Report { arrivals: arrivals(marks, &words) }
+    }
+}
+
+impl Report {
+    /// How many of the twelve places arrived good.
+    pub fn good(&self) -> u32
+        ensures { λ r. ⌜ r ≡ goodIn (map passageShown (now (self .entry) .arrivals)) ⌝ }
+    {
+        let mut count = 0;
+        for arrival in self.arrivals.iter() {
+            count += good_at(arrival.reading);
+        }
+        count
+    }
+}
