@@ -1,4 +1,5 @@
 pub mod Complaint
 pub mod Order
 pub mod Passage
+pub mod Print
 pub mod Shown

@@ -2,6 +2,7 @@
 mod orders;
 mod parts;
 mod passage;
+mod printed;
 
 pub use orders::read_order;
 pub use parts::Arrival;
@@ -9,3 +10,6 @@ pub use parts::Fault;
 pub use parts::Order;
 pub use parts::Report;
 pub use parts::Trouble;
+pub use printed::ArrivalDisplay;
+pub use printed::FaultDisplay;
+pub use printed::ReportDisplay;

@@ -9,6 +9,6 @@ abbrev pub glyph : ℕ → ℕ
 glyph digit = cond (ltb digit 10) (48 + digit) (55 + digit)
 
 -- The last k hexadecimal digits of a number, leading zeros with them.
-abbrev pub hexOf : ℕ → ℕ → List ℕ
+unfoldable pub hexOf : ℕ → ℕ → List ℕ
 hexOf zero number = []
 hexOf (suc k) number = glyph (number / 16 ^ k % 16) ∷ hexOf k number
