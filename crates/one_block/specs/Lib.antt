@@ -3,3 +3,4 @@ pub mod Order
 pub mod Passage
 pub mod Print
 pub mod Shown
+pub mod Task

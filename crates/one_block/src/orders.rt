@@ -26,11 +26,19 @@ fn put_field(block: &mut OpenBlock, place: u32, field: &[u8]) -> Result<(), Faul
     ensures codes { λ _. ⌜ now (block .exit) .codes ≡ now (block .entry) .codes ⌝ }
 {
     let Some(content) = number(16, field) else {
-        return Err(Fault { line: 1, place, trouble: Trouble::Unclear });
+        return Err(Fault {
+            line: 1,
+            place,
+            trouble: Trouble::Unclear,
+        });
     };
     match block.put(content) {
         Ok(()) => Ok(()),
-        Err(refusal) => Err(Fault { line: 1, place, trouble: Trouble::Refused(refusal) }),
+        Err(refusal) => Err(Fault {
+            line: 1,
+            place,
+            trouble: Trouble::Refused(refusal),
+        }),
     }
 }
 
@@ -66,11 +74,19 @@ fn next_number(fields: &mut Fields, line: u32, place: u32, form: Form) -> Result
     ensures rest { λ _. ⌜ fieldsOf (now (now (fields .exit) .rest)) ≡ behind (fieldsOf (now (now (fields .entry) .rest))) ⌝ }
 {
     let Some(field) = fields.take_next() else {
-        return Err(Fault { line, place, trouble: Trouble::Missing });
+        return Err(Fault {
+            line,
+            place,
+            trouble: Trouble::Missing,
+        });
     };
     match number_as(form, field) {
         Some(number) => Ok(number),
-        None => Err(Fault { line, place, trouble: Trouble::Unclear }),
+        None => Err(Fault {
+            line,
+            place,
+            trouble: Trouble::Unclear,
+        }),
     }
 }
 
@@ -80,7 +96,11 @@ fn no_more(fields: &mut Fields, line: u32, place: u32) -> Result<(), Fault>
 {
     match fields.take_next() {
         None => Ok(()),
-        Some(_) => Err(Fault { line, place, trouble: Trouble::Unclear }),
+        Some(_) => Err(Fault {
+            line,
+            place,
+            trouble: Trouble::Unclear,
+        }),
     }
 }
 
@@ -96,7 +116,11 @@ fn acu_line(line: &[u8]) -> Result<Acu, Fault>
     let place = if acknowledged < 8 { 3 } else { 2 };
     match Acu::new(indicators, acknowledged, number) {
         Ok(acu) => Ok(acu),
-        Err(refusal) => Err(Fault { line: 2, place, trouble: Trouble::Refused(refusal) }),
+        Err(refusal) => Err(Fault {
+            line: 2,
+            place,
+            trouble: Trouble::Refused(refusal),
+        }),
     }
 }
 
@@ -110,9 +134,14 @@ fn marks_line(line: &[u8]) -> Result<u32, Fault>
     Ok(marks)
 }
 
-/// An order from its three lines: the contents in hexadecimal, the fields of the ACU, and the marks. The block is begun with
-/// the codes given.
-pub fn read_order(codes: Codes, contents: &[u8], acu: &[u8], marks: &[u8]) -> Result<Order, Fault>
+// An order from its three lines: the contents in hexadecimal, the fields of the ACU, and the marks. The block is begun with
+// the codes given.
+pub(crate) fn read_order(
+    codes: Codes,
+    contents: &[u8],
+    acu: &[u8],
+    marks: &[u8],
+) -> Result<Order, Fault>
     ensures answer { λ r. ⌜ heard orderShown r ≡ orderFrom (now (contents .entry)) (now (acu .entry)) (now (marks .entry)) ⌝ }
     ensures codes { λ r. ⌜ made r (λ order. order .block .codes ≡ codes) ⌝ }
 {

@@ -7,23 +7,23 @@ use units::Acu;
 use words::Reading;
 use words::Refusal;
 
-/// A block to be sent: what was put into it, its ACU, and the places at which the last bit is inverted on the way, as a number
-/// of twelve bits, place 1 the highest.
+// A block to be sent: what was put into it, its ACU, and the places at which the last bit is inverted on the way, as a number
+// of twelve bits, place 1 the highest.
 #[derive(Drop)]
-pub struct Order {
+pub(crate) struct Order {
     pub(crate) block: OpenBlock,
     pub(crate) acu: Acu,
     pub(crate) marks: u32,
 }
 
-/// What is wrong with a field of a line.
+// What is wrong with a field of a line.
 #[derive(Clone, Copy)]
-pub enum Trouble {
-    /// The field is not there.
+pub(crate) enum Trouble {
+    // The field is not there.
     Missing,
-    /// It cannot be understood, or it is one too many.
+    // It cannot be understood, or it is one too many.
     Unclear,
-    /// Its number is refused.
+    // Its number is refused.
     Refused(Refusal),
 }
 
@@ -35,9 +35,9 @@ pub struct Fault {
     pub(crate) trouble: Trouble,
 }
 
-/// What was seen at one place, 1 to 12: the number sent, the number that arrived, and what that reads as.
+// What was seen at one place, 1 to 12: the number sent, the number that arrived, and what that reads as.
 #[derive(Clone, Copy)]
-pub struct Arrival {
+pub(crate) struct Arrival {
     pub(crate) place: u32,
     pub(crate) sent: u32,
     pub(crate) arrived: u32,

@@ -23,8 +23,17 @@ fn arrival(marks: u32, place: u32, word: u32) -> Arrival
     requires { ⌜ place ≤ 12 ⌝ }
     ensures { λ r. ⌜ passageShown r ≡ passageOf marks place word ⌝ }
 {
-    let arrived = if (marks >> (12 - place)) % 2 == 1 { invert_last_bit(word) } else { word };
-    Arrival { place, sent: word, arrived, reading: read(arrived) }
+    let arrived = if (marks >> (12 - place)) % 2 == 1 {
+        invert_last_bit(word)
+    } else {
+        word
+    };
+    Arrival {
+        place,
+        sent: word,
+        arrived,
+        reading: read(arrived),
+    }
 }
 
 // Whether a place arrived good, as a count.
@@ -52,20 +61,22 @@ fn arrivals(marks: u32, words: &[u32; 12]) -> [Arrival; 12]
 }
 
 impl Order {
-    /// Sends the block, inverts the last bit at each marked place, and reads what arrives.
-    pub fn pass(self) -> Report
+    // Sends the block, inverts the last bit at each marked place, and reads what arrives.
+    pub(crate) fn pass(self) -> Report
         ensures seen { λ r. ⌜ map passageShown (r .arrivals) ≡ passages (self .marks) (blockOf (self .block .codes .pattern) (contentsIn (self .block)) (acuContent (self .acu))) ⌝ }
         ensures outcome { λ r. ⌜ map readingIn (r .arrivals) ≡ outcomes (self .marks) (contentsOf (self .block .codes .pattern) (contentsIn (self .block)) (acuContent (self .acu))) ⌝ }
     {
         let Order { block, acu, marks } = self;
         let words = block.close(acu).send();
-        Report { arrivals: arrivals(marks, &words) }
+        Report {
+            arrivals: arrivals(marks, &words),
+        }
     }
 }
 
 impl Report {
-    /// How many of the twelve places arrived good.
-    pub fn good(&self) -> u32
+    // How many of the twelve places arrived good.
+    pub(crate) fn good(&self) -> u32
         ensures { λ r. ⌜ r ≡ goodIn (map passageShown (now (self .entry) .arrivals)) ⌝ }
     {
         let mut count = 0;

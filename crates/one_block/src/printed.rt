@@ -15,7 +15,7 @@ use text::Hex7;
 use text::Hex7Display;
 use words::Reading;
 
-pub impl fmt::Display for Arrival as ArrivalDisplay {
+impl fmt::Display for Arrival as ArrivalDisplay {
     ghost shown = { λ a. Some (placeText (passageShown a)) };
 
     fn fmt<W: fmt::Write>(&self, f: &mut fmt::Formatter<W>) -> fmt::Result {

@@ -6,9 +6,9 @@ use Prim.Native.Nat.{ℕ, _<_, _≤_}
 use lib.Dec.{eqb}
 use lib.ListN.{length, getD}
 
--- Blanks: the space, the tab, and the carriage return that some systems put before the end of a line.
+-- Blanks: the space, the tab, and what ends a line, which is a line feed, on some systems behind a carriage return.
 abbrev pub blank : ℕ → Bool
-blank byte = eqb byte 32 || eqb byte 9 || eqb byte 13
+blank byte = eqb byte 32 || eqb byte 9 || eqb byte 10 || eqb byte 13
 
 -- A run of bytes has ended: it is a field, unless it is empty.
 abbrev pub ended : List ℕ → List (List ℕ)

@@ -7,7 +7,7 @@ ghost use Rattle.text.specs.Field.{blank, fieldsOf, Front};
 fn is_blank(byte: u8) -> bool
     ensures { λ r. ⌜ r ≡ blank byte ⌝ }
 {
-    matches!(byte, b' ' | b'\t' | b'\r')
+    matches!(byte, b' ' | b'\t' | b'\n' | b'\r')
 }
 
 // How many bytes at the front are blanks, or are none.

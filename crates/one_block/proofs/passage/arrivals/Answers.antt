@@ -16,10 +16,10 @@ pub loop-i-again : need.loop-i-again
 loop-i-again c = (
   length-set (c .loop-i .arrivals) (c .loop-i .i) (c .arrival .result) ∙ c .loop-i .inv .0,
   λ k h.
-  let long = length-map (c .loop-i .arrivals) passageShown in
-  let within : c .loop-i .i < length (map passageShown (c .loop-i .arrivals)) = omega arith in
-  rw (map-set passageShown (c .loop-i .arrivals) (c .loop-i .i) (c .arrival .result), c .arrival .ensures)
-  (fill-by-more (λ j. passageOf (c .args .marks) (j + 1) (getD (c .args .words .now) j 0)) (map passageShown (c .loop-i .arrivals)) (c .loop-i .i) (passageOf 0 0 0) within (c .loop-i .inv .1) k h),
+      let long = length-map (c .loop-i .arrivals) passageShown in
+      let within : c .loop-i .i < length (map passageShown (c .loop-i .arrivals)) = omega arith in
+      rw (map-set passageShown (c .loop-i .arrivals) (c .loop-i .i) (c .arrival .result), c .arrival .ensures)
+      (fill-by-more (λ j. passageOf (c .args .marks) (j + 1) (getD (c .args .words .now) j 0)) (map passageShown (c .loop-i .arrivals)) (c .loop-i .i) (passageOf 0 0 0) within (c .loop-i .inv .1) k h),
 )
 
 pub returns : need.returns
