@@ -1,5 +1,4 @@
-pub mod Complaint
-pub mod Order
+pub mod Hex
 pub mod Passage
 pub mod Print
 pub mod Shown

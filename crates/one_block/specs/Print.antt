@@ -1,21 +1,20 @@
--- What is printed, as bytes.
+-- What is printed of a report, as bytes.
 use mathlib.Core.List.{List, [], _∷_, _++_}
 use Prim.Native.Nat.{ℕ}
 use lib.Chars.{codes}
 use Rattle.std.specs.Written.{decimal}
 use Rattle.std.specs.declared.option.Option.{Option}
 use Rattle.std.specs.declared.option.Option.the-variants.{Some, None}
-use Rattle.text.specs.Hex.{hexOf}
-use Rattle.one_block.specs.Complaint.{Wrong, missing, unclear, refused, Complaint}
+use Rattle.one_block.specs.Hex.{hexOf}
 use Rattle.one_block.specs.Passage.{Passage, goodIn}
 
 -- A place: its number, the number sent, the number that arrived, and what it reads as.
 abbrev pub readingText : Option ℕ → List ℕ
-readingText None = codes " spoiled"
-readingText (Some content) = codes " good " ++ hexOf 5 content
+readingText None = codes "spoiled"
+readingText (Some content) = codes "good " ++ hexOf 5 content
 
 abbrev pub placeText : Passage → List ℕ
-placeText p = decimal (p .place) ++ (codes " " ++ (hexOf 7 (p .sent) ++ (codes " " ++ (hexOf 7 (p .arrived) ++ readingText (p .reading)))))
+placeText p = decimal (p .place) ++ (codes " " ++ (hexOf 7 (p .sent) ++ (codes " " ++ (hexOf 7 (p .arrived) ++ (codes " " ++ readingText (p .reading))))))
 
 -- A line ends with byte 10.
 abbrev pub lineText : List ℕ → List ℕ
@@ -28,12 +27,3 @@ placeLines (p ∷ ps) = lineText (placeText p) ++ placeLines ps
 
 abbrev pub reportText : List Passage → List ℕ
 reportText ps = placeLines ps ++ (decimal (goodIn ps) ++ lineText (codes " of 12 good"))
-
--- A complaint: the line, the place of the field, and what is wrong with it.
-abbrev pub wrongText : Wrong → List ℕ
-wrongText missing = codes ": missing"
-wrongText unclear = codes ": cannot be understood"
-wrongText (refused number) = codes ": refused, " ++ decimal number
-
-abbrev pub complaintText : Complaint → List ℕ
-complaintText c = codes "line " ++ (decimal (c .line) ++ (codes ", field " ++ (decimal (c .place) ++ wrongText (c .wrong))))

@@ -7,8 +7,8 @@ use Rattle.std.specs.declared.result.Result.the-variants.{Ok, Err}
 use Rattle.blocks.specs.Block.{contentsOf, blockOf}
 use Rattle.units.specs.Acknowledgement.{acuOf}
 use Rattle.units.specs.Reserved.{CodeNumbers}
-use Rattle.one_block.specs.Complaint.{Complaint}
-use Rattle.one_block.specs.Order.{Ordered}
+use Rattle.orders.specs.Complaint.{Complaint}
+use Rattle.orders.specs.Order.{Ordered}
 use Rattle.one_block.specs.Passage.{Passage, passages, outcomes}
 
 -- The codes that the block is made with.

@@ -12,8 +12,8 @@ ghost use Rattle.std.specs.declared.option.Option.the-variants.{Some};
 ghost use Rattle.units.specs.Signals.{acuContent};
 ghost use Rattle.words.specs.Seen.{seen};
 use super::parts::Arrival;
-use super::parts::Order;
 use super::parts::Report;
+use orders::Order;
 use words::Reading;
 use words::invert_last_bit;
 use words::read;
@@ -60,17 +60,15 @@ fn arrivals(marks: u32, words: &[u32; 12]) -> [Arrival; 12]
     arrivals
 }
 
-impl Order {
-    // Sends the block, inverts the last bit at each marked place, and reads what arrives.
-    pub(crate) fn pass(self) -> Report
-        ensures seen { λ r. ⌜ map passageShown (r .arrivals) ≡ passages (self .marks) (blockOf (self .block .codes .pattern) (contentsIn (self .block)) (acuContent (self .acu))) ⌝ }
-        ensures outcome { λ r. ⌜ map readingIn (r .arrivals) ≡ outcomes (self .marks) (contentsOf (self .block .codes .pattern) (contentsIn (self .block)) (acuContent (self .acu))) ⌝ }
-    {
-        let Order { block, acu, marks } = self;
-        let words = block.close(acu).send();
-        Report {
-            arrivals: arrivals(marks, &words),
-        }
+// Sends the block of an order, inverts the last bit at each marked place, and reads what arrives.
+pub(crate) fn pass(order: Order) -> Report
+    ensures seen { λ r. ⌜ map passageShown (r .arrivals) ≡ passages (order .marks) (blockOf (order .block .codes .pattern) (contentsIn (order .block)) (acuContent (order .acu))) ⌝ }
+    ensures outcome { λ r. ⌜ map readingIn (r .arrivals) ≡ outcomes (order .marks) (contentsOf (order .block .codes .pattern) (contentsIn (order .block)) (acuContent (order .acu))) ⌝ }
+{
+    let Order { block, acu, marks } = order;
+    let words = block.close(acu).send();
+    Report {
+        arrivals: arrivals(marks, &words),
     }
 }
 

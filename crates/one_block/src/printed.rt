@@ -1,19 +1,35 @@
-// What is printed of a report and of a fault.
+// What is printed of a report.
 ghost use mathlib.Core.List.{map};
-ghost use Rattle.std.specs.declared.option.Option.the-variants.{Some};
-ghost use Rattle.one_block.specs.Complaint.{complaintOf};
-ghost use Rattle.one_block.specs.Print.{placeText, reportText, complaintText};
+ghost use Rattle.one_block.specs.Print.{readingText, placeText, reportText};
 ghost use Rattle.one_block.specs.Shown.{passageShown};
+ghost use Rattle.std.specs.declared.option.Option.the-variants.{Some};
+ghost use Rattle.words.specs.Seen.{seen};
+use super::hexadecimal::Hex5;
+use super::hexadecimal::Hex5Display;
+use super::hexadecimal::Hex7;
+use super::hexadecimal::Hex7Display;
 use super::parts::Arrival;
-use super::parts::Fault;
 use super::parts::Report;
-use super::parts::Trouble;
 use std::fmt;
-use text::Hex5;
-use text::Hex5Display;
-use text::Hex7;
-use text::Hex7Display;
 use words::Reading;
+
+// What a number reads as.
+#[derive(Clone, Copy)]
+struct Outcome(Reading);
+
+impl fmt::Display for Outcome as OutcomeDisplay {
+    ghost shown = { λ o. Some (readingText (seen (o .0))) };
+
+    fn fmt<W: fmt::Write>(&self, f: &mut fmt::Formatter<W>) -> fmt::Result {
+        match self.0 {
+            Reading::Good(content) => {
+                let content = Hex5(content.value());
+                write!(f, "good {content}")
+            }
+            Reading::Spoiled => write!(f, "spoiled"),
+        }
+    }
+}
 
 impl fmt::Display for Arrival as ArrivalDisplay {
     ghost shown = { λ a. Some (placeText (passageShown a)) };
@@ -22,30 +38,8 @@ impl fmt::Display for Arrival as ArrivalDisplay {
         let place = self.place;
         let sent = Hex7(self.sent);
         let arrived = Hex7(self.arrived);
-        match self.reading {
-            Reading::Good(content) => {
-                let content = Hex5(content.value());
-                write!(f, "{place} {sent} {arrived} good {content}")
-            }
-            Reading::Spoiled => write!(f, "{place} {sent} {arrived} spoiled"),
-        }
-    }
-}
-
-pub impl fmt::Display for Fault as FaultDisplay {
-    ghost shown = { λ e. Some (complaintText (complaintOf e)) };
-
-    fn fmt<W: fmt::Write>(&self, f: &mut fmt::Formatter<W>) -> fmt::Result {
-        let line = self.line;
-        let place = self.place;
-        match self.trouble {
-            Trouble::Missing => write!(f, "line {line}, field {place}: missing"),
-            Trouble::Unclear => write!(f, "line {line}, field {place}: cannot be understood"),
-            Trouble::Refused(refusal) => {
-                let number = refusal.number();
-                write!(f, "line {line}, field {place}: refused, {number}")
-            }
-        }
+        let outcome = Outcome(self.reading);
+        write!(f, "{place} {sent} {arrived} {outcome}")
     }
 }
 

@@ -1,14 +1,15 @@
 // The whole task: one block is ordered by three lines, sent, and looked at.
 ghost use mathlib.Core.List.{map};
 ghost use mathlib.Core.Path.{_≡_};
-ghost use Rattle.one_block.specs.Complaint.{heard};
-ghost use Rattle.one_block.specs.Order.{orderFrom};
+ghost use Rattle.orders.specs.Complaint.{heard};
+ghost use Rattle.orders.specs.Order.{orderFrom};
 ghost use Rattle.one_block.specs.Shown.{passageShown, readingIn};
 ghost use Rattle.one_block.specs.Task.{codesUsed, reported, arrived};
 ghost use Rattle.units.specs.Signals.{codesOf};
-use super::orders::read_order;
-use super::parts::Fault;
 use super::parts::Report;
+use super::passage::pass;
+use orders::Fault;
+use orders::read_order;
 use units::Codes;
 
 // The codes that the block is made with.
@@ -25,5 +26,5 @@ pub fn send_block(first: &[u8], second: &[u8], third: &[u8]) -> Result<Report, F
     ensures outcome { λ r. ⌜ heard (λ report. map readingIn (report .arrivals)) r ≡ arrived (orderFrom (now (first .entry)) (now (second .entry)) (now (third .entry))) ⌝ }
 {
     let order = read_order(codes_used(), first, second, third)?;
-    Ok(order.pass())
+    Ok(pass(order))
 }

@@ -5,8 +5,6 @@ ghost use Prim.Native.Nat.{_%_, _^_};
 ghost use Rattle.coding.specs.Word.{inverted, wordOf};
 use std::error::AnyError;
 use text::Fields;
-use text::Hex5;
-use text::Hex5Display;
 use text::number;
 use words::Content;
 
@@ -26,9 +24,8 @@ fn entry_agrees(rt: &LibcRuntime, content: u32, entry: &[u8]) -> Result<bool, An
     if number(16, entry) == Some(remainder) {
         return Ok(true);
     }
-    let at = Hex5(content.value());
-    let shown = Hex5(remainder);
-    println!(rt, "{at}: its word shows the remainder {shown}")?;
+    let value = content.value();
+    println!(rt, "{value:03X}: its word shows the remainder {remainder:02X}")?;
     Ok(false)
 }
 

@@ -1,7 +1,7 @@
 // Sends the block that the first three lines of the input order, and prints what arrived.
-use one_block::FaultDisplay;
 use one_block::ReportDisplay;
 use one_block::send_block;
+use orders::FaultDisplay;
 use std::error::AnyError;
 use std::io;
 

@@ -1,7 +1,7 @@
 // Sends one block after another, each ordered by three lines of the input, and prints of each what arrived or what is wrong.
-use one_block::FaultDisplay;
 use one_block::ReportDisplay;
 use one_block::send_block;
+use orders::FaultDisplay;
 use std::error::AnyError;
 use std::io;
 

@@ -12,9 +12,9 @@ use Rattle.blocks.specs.Block.{putting}
 use Rattle.units.specs.Acknowledgement.{acuFrom}
 use Rattle.text.specs.Field.{fieldsOf}
 use Rattle.text.specs.Number.{numberIn}
-use Rattle.one_block.specs.Complaint.{Complaint, missing, unclear, understood, accepted}
-use Rattle.one_block.specs.declared.parts.Form.{Form}
-use Rattle.one_block.specs.declared.parts.Form.the-variants.{Binary, Decimal}
+use Rattle.orders.specs.Complaint.{Complaint, missing, unclear, understood, accepted}
+use Rattle.orders.specs.declared.parts.Form.{Form}
+use Rattle.orders.specs.declared.parts.Form.the-variants.{Binary, Decimal}
 
 -- ---- the first line: the contents, in hexadecimal
 

@@ -4,8 +4,8 @@ use Rattle.std.proofs.shelf.Results.{err-from-errBy}
 use Rattle.std.specs.declared.result.Result.the-variants.{Ok}
 use Rattle.blocks.specs.Put.{contentsIn}
 use Rattle.text.specs.Number.{numberIn}
-use Rattle.one_block.proofs.Lines.{fields-more, fields-fail, field-longer}
-use Rattle.one_block.proofs.orders.contents_line.Needs as need
+use Rattle.orders.proofs.Lines.{fields-more, fields-fail, field-longer}
+use Rattle.orders.proofs.reading.contents_line.Needs as need
 
 pub returns-in-Break-put-field : need.returns-in-Break-put-field
 returns-in-Break-put-field c =

@@ -4,8 +4,8 @@ use Prim.Native.Nat.{ℕ, _%_}
 use lib.Utf8.{encode}
 use Rattle.std.specs.Written.{Put}
 use Rattle.std.proofs.shelf.Text.{encode-ascii}
-use Rattle.text.specs.Hex.{glyph}
-use Rattle.text.proofs.hexadecimal.LastDigitDisplay.fmt.Needs as need
+use Rattle.one_block.specs.Hex.{glyph}
+use Rattle.one_block.proofs.hexadecimal.LastDigitDisplay.fmt.Needs as need
 
 -- a letter below 128 is one byte
 pub returns : need.returns

@@ -4,8 +4,8 @@ use lib.ListN.{length}
 use Rattle.std.specs.declared.result.Result.the-variants.{Ok}
 use Rattle.blocks.specs.Put.{contentsIn}
 use Rattle.text.specs.Field.{fieldsOf}
-use Rattle.one_block.specs.Order.{putFields, contentsLine}
-use Rattle.one_block.proofs.orders.contents_line.Given as given
+use Rattle.orders.specs.Order.{putFields, contentsLine}
+use Rattle.orders.proofs.reading.contents_line.Given as given
 
 -- the fields that are left make the answer of the whole line
 abbrev pub Inv-loop-field : given.InvT-loop-field

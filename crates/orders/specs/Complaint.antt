@@ -5,9 +5,9 @@ use Rattle.std.specs.declared.option.Option.the-variants.{Some, None}
 use Rattle.std.specs.declared.result.Result.{Result}
 use Rattle.std.specs.declared.result.Result.the-variants.{Ok, Err}
 use Rattle.words.specs.Refusals.{numberOf}
-use Rattle.one_block.specs.declared.parts.Fault.{Fault}
-use Rattle.one_block.specs.declared.parts.Trouble.{Trouble}
-use Rattle.one_block.specs.declared.parts.Trouble.the-variants.{Missing, Unclear, Refused}
+use Rattle.orders.specs.declared.parts.Fault.{Fault}
+use Rattle.orders.specs.declared.parts.Trouble.{Trouble}
+use Rattle.orders.specs.declared.parts.Trouble.the-variants.{Missing, Unclear, Refused}
 
 -- A field is missing, cannot be understood, or has a number that is refused, with the number of the refusal.
 pub data Wrong : Type 0 where

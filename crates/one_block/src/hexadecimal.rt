@@ -3,7 +3,7 @@ ghost use mathlib.Core.List.{[], _∷_};
 ghost use mathlib.Core.Path.{_≡_};
 ghost use Prim.Native.Nat.{_%_, _<_};
 ghost use Rattle.std.specs.declared.option.Option.the-variants.{Some};
-ghost use Rattle.text.specs.Hex.{glyph, hexOf};
+ghost use Rattle.one_block.specs.Hex.{glyph, hexOf};
 use std::fmt;
 
 // The last hexadecimal digit of a number.
@@ -28,11 +28,11 @@ impl fmt::Display for LastDigit as LastDigitDisplay {
     }
 }
 
-/// A number by its last five hexadecimal digits, as many as a content has.
+// A number by its last five hexadecimal digits, as many as a content has.
 #[derive(Clone, Copy)]
-pub struct Hex5(pub u32);
+pub(crate) struct Hex5(pub(crate) u32);
 
-pub impl fmt::Display for Hex5 as Hex5Display {
+pub(crate) impl fmt::Display for Hex5 as Hex5Display {
     ghost shown = { λ h. Some (hexOf 5 (h .0)) };
 
     fn fmt<W: fmt::Write>(&self, f: &mut fmt::Formatter<W>) -> fmt::Result {
@@ -45,11 +45,11 @@ pub impl fmt::Display for Hex5 as Hex5Display {
     }
 }
 
-/// A number by its last seven hexadecimal digits, as many as a word has.
+// A number by its last seven hexadecimal digits, as many as a word has.
 #[derive(Clone, Copy)]
-pub struct Hex7(pub u32);
+pub(crate) struct Hex7(pub(crate) u32);
 
-pub impl fmt::Display for Hex7 as Hex7Display {
+pub(crate) impl fmt::Display for Hex7 as Hex7Display {
     ghost shown = { λ h. Some (hexOf 7 (h .0)) };
 
     fn fmt<W: fmt::Write>(&self, f: &mut fmt::Formatter<W>) -> fmt::Result {

@@ -11,8 +11,8 @@ use Rattle.std.specs.declared.option.Option.the-variants.{Some, None}
 use Rattle.std.specs.declared.result.Result.{Result}
 use Rattle.std.specs.declared.result.Result.the-variants.{Ok, Err}
 use Rattle.text.specs.Number.{numberIn}
-use Rattle.one_block.specs.Complaint.{Complaint, accepted}
-use Rattle.one_block.specs.Order.{putField, putFields}
+use Rattle.orders.specs.Complaint.{Complaint, accepted}
+use Rattle.orders.specs.Order.{putField, putFields}
 
 -- a complaint stays
 fields-complained : (place : ℕ) (e : Complaint) (fs : List (List ℕ)) → putFields place (Err e) fs ≡ Err e

@@ -1,9 +1,9 @@
 // An order, read from its three lines.
 ghost use mathlib.Core.Path.{_≡_};
 ghost use Rattle.blocks.specs.Put.{contentsIn};
-ghost use Rattle.one_block.specs.Complaint.{heard, complaintOf};
-ghost use Rattle.one_block.specs.Order.{contentsLine, putField, readAs, numberAt, endAt, behind, acuLine, marksLine, orderFrom};
-ghost use Rattle.one_block.specs.Shown.{orderShown};
+ghost use Rattle.orders.specs.Complaint.{heard, complaintOf};
+ghost use Rattle.orders.specs.Order.{contentsLine, putField, readAs, numberAt, endAt, behind, acuLine, marksLine, orderFrom};
+ghost use Rattle.orders.specs.Shown.{orderShown};
 ghost use Rattle.std.specs.Vec.{made};
 ghost use Rattle.std.specs.declared.option.Option.the-variants.{Some, None};
 ghost use Rattle.std.specs.declared.result.Result.the-variants.{Ok, Err};
@@ -134,9 +134,9 @@ fn marks_line(line: &[u8]) -> Result<u32, Fault>
     Ok(marks)
 }
 
-// An order from its three lines: the contents in hexadecimal, the fields of the ACU, and the marks. The block is begun with
-// the codes given.
-pub(crate) fn read_order(
+/// An order from its three lines: the contents in hexadecimal, the fields of the ACU, and the marks. The block is begun with
+/// the codes given.
+pub fn read_order(
     codes: Codes,
     contents: &[u8],
     acu: &[u8],

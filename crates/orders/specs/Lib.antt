@@ -1,0 +1,4 @@
+pub mod Complaint
+pub mod Order
+pub mod Print
+pub mod Shown

@@ -1,7 +1,0 @@
-use borrow.Author.Needs.{needs}
-use Rattle.text.specs.Hex.{hexOf}
-use Rattle.text.proofs.hexadecimal.Hex5Display.fmt.Needs as need
-
-pub returns : need.returns
-unfolding hexOf
-returns g c = search needs
