@@ -4,18 +4,18 @@ ghost use lib.ListN.{length};
 ghost use mathlib.Core.Path.{_≡_};
 use words::Reading;
 
-// What was seen at one place, 1 to 12: the number sent, the number that arrived, and what that reads as.
+/// What was seen at one place, 1 to 12: the number sent, the number that arrived, and what that reads as.
 #[derive(Clone, Copy)]
-pub(crate) struct Arrival {
-    pub(crate) place: u32,
-    pub(crate) sent: u32,
-    pub(crate) arrived: u32,
-    pub(crate) reading: Reading,
+pub struct Arrival {
+    pub place: u32,
+    pub sent: u32,
+    pub arrived: u32,
+    pub reading: Reading,
 }
 
 /// What was seen at the twelve places of a block.
 #[derive(Drop)]
 pub struct Report {
-    pub(crate) arrivals: [Arrival; 12],
+    pub arrivals: [Arrival; 12],
     ghost twelve: { length arrivals ≡ 12 },
 }

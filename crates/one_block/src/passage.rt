@@ -73,8 +73,8 @@ pub(crate) fn pass(order: Order) -> Report
 }
 
 impl Report {
-    // How many of the twelve places arrived good.
-    pub(crate) fn good(&self) -> u32
+    /// How many of the twelve places arrived good.
+    pub fn good(&self) -> u32
         ensures { λ r. ⌜ r ≡ goodIn (map passageShown (now (self .entry) .arrivals)) ⌝ }
     {
         let mut count = 0;

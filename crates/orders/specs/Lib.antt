@@ -1,4 +1,3 @@
 pub mod Complaint
 pub mod Order
-pub mod Print
 pub mod Shown

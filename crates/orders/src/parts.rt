@@ -13,23 +13,23 @@ pub struct Order {
     pub marks: u32,
 }
 
-// What is wrong with a field of a line.
+/// What is wrong with a field of a line.
 #[derive(Clone, Copy)]
-pub(crate) enum Trouble {
-    // The field is not there.
+pub enum Trouble {
+    /// The field is not there.
     Missing,
-    // It cannot be understood, or it is one too many.
+    /// It cannot be understood, or it is one too many.
     Unclear,
-    // Its number is refused.
+    /// Its number is refused.
     Refused(Refusal),
 }
 
 /// A fault in the lines of an order: the line and the place of the field in it, both from 1, and what is wrong with it.
 #[derive(Clone, Copy)]
 pub struct Fault {
-    pub(crate) line: u32,
-    pub(crate) place: u32,
-    pub(crate) trouble: Trouble,
+    pub line: u32,
+    pub place: u32,
+    pub trouble: Trouble,
 }
 
 // How the digits of a field make a number.

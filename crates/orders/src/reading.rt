@@ -136,12 +136,7 @@ fn marks_line(line: &[u8]) -> Result<u32, Fault>
 
 /// An order from its three lines: the contents in hexadecimal, the fields of the ACU, and the marks. The block is begun with
 /// the codes given.
-pub fn read_order(
-    codes: Codes,
-    contents: &[u8],
-    acu: &[u8],
-    marks: &[u8],
-) -> Result<Order, Fault>
+pub fn read_order(codes: Codes, contents: &[u8], acu: &[u8], marks: &[u8]) -> Result<Order, Fault>
     ensures answer { λ r. ⌜ heard orderShown r ≡ orderFrom (now (contents .entry)) (now (acu .entry)) (now (marks .entry)) ⌝ }
     ensures codes { λ r. ⌜ made r (λ order. order .block .codes ≡ codes) ⌝ }
 {

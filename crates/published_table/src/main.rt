@@ -4,6 +4,7 @@ ghost use mathlib.Core.Path.{_≡_};
 ghost use Prim.Native.Nat.{_%_, _^_};
 ghost use Rattle.coding.specs.Word.{inverted, wordOf};
 use std::error::AnyError;
+use std::io::Read;
 use text::Fields;
 use text::number;
 use words::Content;
@@ -15,36 +16,26 @@ fn remainder_in_word(content: Content) -> u32
     (content.word() % 256) ^ 0xff
 }
 
-// Prints where an entry of the table and the word of its content differ, and tells whether they agree.
-fn entry_agrees(rt: &LibcRuntime, content: u32, entry: &[u8]) -> Result<bool, AnyError> {
-    let Ok(content) = Content::new(content) else {
-        return Err("the table has too many entries".into());
-    };
-    let remainder = remainder_in_word(content);
-    if number(16, entry) == Some(remainder) {
-        return Ok(true);
+// Whether an entry of the table is the remainder that the word of its content shows.
+fn agrees(content: u32, entry: &[u8]) -> bool {
+    match Content::new(content) {
+        Ok(content) => number(16, entry) == Some(remainder_in_word(content)),
+        Err(_) => false,
     }
-    let value = content.value();
-    println!(rt, "{value:03X}: its word shows the remainder {remainder:02X}")?;
-    Ok(false)
 }
 
 fn main(rt: LibcRuntime) -> Result<(), AnyError> {
-    let mut entries: u32 = 0;
+    let mut table = String::new(rt.alloc());
+    rt.stdin().read_to_string(&mut table)?;
+    let mut entries = Fields::of(table.as_bytes());
+    let mut content: u32 = 0;
     let mut agreeing: u32 = 0;
-    for line in rt.lines(rt.alloc()) {
-        let line = line?;
-        if line.as_str().starts_with('#') {
-            continue;
+    while let Some(entry) = entries.take_next() {
+        if agrees(content, entry) {
+            agreeing = agreeing.saturating_add(1);
         }
-        let mut fields = Fields::of(line.as_bytes());
-        while let Some(entry) = fields.take_next() {
-            if entry_agrees(&rt, entries, entry)? {
-                agreeing = agreeing.saturating_add(1);
-            }
-            entries = entries.saturating_add(1);
-        }
+        content = content.saturating_add(1);
     }
-    println!(rt, "{entries} entries, {agreeing} agree")?;
+    println!(rt, "{content} entries, {agreeing} agree")?;
     Ok(())
 }
