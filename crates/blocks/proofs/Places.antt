@@ -14,7 +14,7 @@ use Rattle.std.proofs.shelf.Edits.{fill-by-more}
 use Rattle.std.proofs.shelf.Elements.{all-append}
 use Rattle.std.proofs.shelf.Lists.{ext-getD, getD-append-left, getD-append-right, getD-at, getD-map, getD-take, length-map, length-take-le}
 use Rattle.std.proofs.shelf.Tests.{and-from, eq-eqb}
-use Rattle.units.specs.Reserved.{syuOf}
+use Rattle.reserved.specs.Reserved.{syuOf}
 use Rattle.words.specs.Seen.{valueOf}
 use Rattle.coding.specs.Word.{wordOf, readingOf}
 use Rattle.words.specs.declared.parts.Content.{Content}

@@ -7,8 +7,8 @@ use lib.ListN.{length, getD}
 use Rattle.std.specs.Iters.{counting}
 use Rattle.std.specs.declared.result.Result.{Result}
 use Rattle.std.specs.declared.result.Result.the-variants.{Ok, Err}
-use Rattle.units.specs.Fields.{bits}
-use Rattle.units.specs.Reserved.{syuOf}
+use Rattle.coding.specs.Bits.{bits}
+use Rattle.reserved.specs.Reserved.{syuOf}
 use Rattle.coding.specs.Word.{wordOf, checks}
 
 -- Putting one content more into an open block: what then stands in it, or the number of the refusal. A content from 2^20 on

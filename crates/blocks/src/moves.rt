@@ -9,13 +9,13 @@ ghost use Rattle.std.specs.Vec.{refused};
 ghost use Rattle.std.specs.declared.option.Option.the-variants.{Some};
 ghost use Rattle.blocks.specs.Block.{putting, contentsOf, blockOf, isAcu, sound};
 ghost use Rattle.blocks.specs.Put.{contentsIn};
-ghost use Rattle.units.specs.Signals.{acuContent};
+ghost use Rattle.acknowledgement.specs.Shown.{acuContent};
 ghost use Rattle.words.specs.Refusals.{answered};
 ghost use Rattle.coding.specs.Word.{readingOf};
 use super::parts::ClosedBlock;
 use super::parts::OpenBlock;
-use units::Acu;
-use units::Codes;
+use acknowledgement::Acu;
+use reserved::Codes;
 use words::Content;
 use words::Refusal;
 

@@ -5,7 +5,7 @@ ghost use mathlib.Core.Bool.{true};
 ghost use mathlib.Core.Path.{_≡_};
 ghost use Prim.Native.Nat.{_≤_};
 ghost use Rattle.blocks.specs.Block.{sound};
-use units::Codes;
+use reserved::Codes;
 use words::Content;
 
 /// A block that still takes contents.

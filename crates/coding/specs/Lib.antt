@@ -1,3 +1,4 @@
+pub mod Bits
 pub mod Polynomial
 pub mod Remainder
 pub mod Word

@@ -4,17 +4,17 @@ use mathlib.Core.Bool.{Bool, true, false, cond}
 use mathlib.Core.List.{List, [], _∷_, map}
 use Prim.Native.Nat.{ℕ, zero, suc, _+_, _<_}
 use native.Mathlib.Omega.{arith}
-use lib.ListN.{length, getD, drop}
+use lib.ListN.{length, getD}
 use Rattle.std.specs.Iters.{counting}
 use Rattle.std.specs.declared.option.Option.{Option}
 use Rattle.std.specs.declared.option.Option.the-variants.{Some, None}
-use Rattle.std.proofs.shelf.Lists.{at-drop-more, getD-map, length-map}
+use Rattle.std.proofs.shelf.Lists.{getD-map, length-map}
 use Rattle.std.proofs.shelf.Ways.{tells}
 use Rattle.coding.specs.Word.{checks, readingOf, lastBitInverted}
 use Rattle.coding.proofs.Making.{inverted-spoils}
-use Rattle.one_block.specs.Passage.{Passage, marked, arriving, passages, goods, goodIn, outcomes}
-use Rattle.one_block.specs.Shown.{passageShown, readingIn}
-use Rattle.one_block.specs.declared.parts.Arrival.{Arrival}
+use Rattle.one_block.specs.Passage.{marked, arriving, passages, outcomes}
+use Rattle.answers.specs.Seen.{passageShown, readingIn}
+use Rattle.answers.specs.declared.parts.Arrival.{Arrival}
 
 -- two functions that agree on the numbers counted
 map-alike : {X : Type 0} (f g : ℕ → X) (a n : ℕ) → ((i : ℕ) → i < a + n → f i ≡ g i) → map f (counting a n) ≡ map g (counting a n)
@@ -40,11 +40,3 @@ outcome marks words contents seen size is read =
     let at : readingOf (getD words i 0) ≡ Some (getD contents i 0) =
     sym (getD-map readingOf words i 0 None (omega arith)) ∙ ap (λ rs. getD rs i None) read ∙ getD-map Some contents i 0 None (omega arith) in
     reads-as (getD words i 0) (getD contents i 0) (marked marks (i + 1)) at)
-
--- those so far, and those that are left
-module _ (places : List Arrival) (i : ℕ) (x : Arrival) (count : ℕ) (within : i < length places) (so-far : count + goodIn (map passageShown (drop i places)) ≡ goodIn (map passageShown places)) where
-  pub good-more : (one : ℕ) → one ≡ goods (readingIn (getD places i x)) → count + one + goodIn (map passageShown (drop (i + 1) places)) ≡ goodIn (map passageShown places)
-  good-more one e =
-      let step : goodIn (map passageShown (drop i places)) ≡ goods (readingIn (getD places i x)) + goodIn (map passageShown (drop (i + 1) places)) =
-      at-drop-more (λ left. goodIn (map passageShown left)) places i x within in
-      omega arith

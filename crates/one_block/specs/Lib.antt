@@ -1,3 +1,2 @@
 pub mod Passage
-pub mod Shown
 pub mod Task

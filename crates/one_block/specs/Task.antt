@@ -5,11 +5,12 @@ use Rattle.std.specs.declared.option.Option.{Option}
 use Rattle.std.specs.declared.result.Result.{Result}
 use Rattle.std.specs.declared.result.Result.the-variants.{Ok, Err}
 use Rattle.blocks.specs.Block.{contentsOf, blockOf}
-use Rattle.units.specs.Acknowledgement.{acuOf}
-use Rattle.units.specs.Reserved.{CodeNumbers}
-use Rattle.orders.specs.Complaint.{Complaint}
+use Rattle.acknowledgement.specs.Acu.{acuOf}
+use Rattle.reserved.specs.Reserved.{CodeNumbers}
+use Rattle.answers.specs.Complaint.{Complaint}
+use Rattle.answers.specs.Seen.{Passage}
 use Rattle.orders.specs.Order.{Ordered}
-use Rattle.one_block.specs.Passage.{Passage, passages, outcomes}
+use Rattle.one_block.specs.Passage.{passages, outcomes}
 
 -- The codes that the block is made with.
 abbrev pub codesUsed : CodeNumbers

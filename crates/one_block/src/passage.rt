@@ -5,14 +5,14 @@ ghost use mathlib.Core.Path.{_≡_};
 ghost use Prim.Native.Nat.{ℕ, _≤_};
 ghost use Rattle.blocks.specs.Block.{blockOf, contentsOf};
 ghost use Rattle.blocks.specs.Put.{contentsIn};
-ghost use Rattle.one_block.specs.Passage.{passageOf, passages, goods, goodIn, outcomes};
-ghost use Rattle.one_block.specs.Shown.{passageShown, readingIn};
+ghost use Rattle.one_block.specs.Passage.{passageOf, passages, outcomes};
+ghost use Rattle.answers.specs.Seen.{passageShown, readingIn};
 ghost use Rattle.coding.specs.Word.{readingOf};
 ghost use Rattle.std.specs.declared.option.Option.the-variants.{Some};
-ghost use Rattle.units.specs.Signals.{acuContent};
+ghost use Rattle.acknowledgement.specs.Shown.{acuContent};
 ghost use Rattle.words.specs.Seen.{seen};
-use super::parts::Arrival;
-use super::parts::Report;
+use answers::Arrival;
+use answers::Report;
 use orders::Order;
 use words::Reading;
 use words::invert_last_bit;
@@ -33,17 +33,6 @@ fn arrival(marks: u32, place: u32, word: u32) -> Arrival
         sent: word,
         arrived,
         reading: read(arrived),
-    }
-}
-
-// Whether a place arrived good, as a count.
-fn good_at(reading: Reading) -> u32
-    ensures value { λ r. ⌜ r ≡ goods (seen reading) ⌝ }
-    ensures few { λ r. ⌜ r ≤ 1 ⌝ }
-{
-    match reading {
-        Reading::Good(_) => 1,
-        Reading::Spoiled => 0,
     }
 }
 
@@ -69,18 +58,5 @@ pub(crate) fn pass(order: Order) -> Report
     let words = block.close(acu).send();
     Report {
         arrivals: arrivals(marks, &words),
-    }
-}
-
-impl Report {
-    /// How many of the twelve places arrived good.
-    pub fn good(&self) -> u32
-        ensures { λ r. ⌜ r ≡ goodIn (map passageShown (now (self .entry) .arrivals)) ⌝ }
-    {
-        let mut count = 0;
-        for arrival in self.arrivals.iter() {
-            count += good_at(arrival.reading);
-        }
-        count
     }
 }

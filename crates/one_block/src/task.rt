@@ -1,16 +1,16 @@
 // The whole task: one block is ordered by three lines, sent, and looked at.
 ghost use mathlib.Core.List.{map};
 ghost use mathlib.Core.Path.{_≡_};
-ghost use Rattle.orders.specs.Complaint.{heard};
+ghost use Rattle.answers.specs.Complaint.{heard};
 ghost use Rattle.orders.specs.Order.{orderFrom};
-ghost use Rattle.one_block.specs.Shown.{passageShown, readingIn};
+ghost use Rattle.answers.specs.Seen.{passageShown, readingIn};
 ghost use Rattle.one_block.specs.Task.{codesUsed, reported, arrived};
-ghost use Rattle.units.specs.Signals.{codesOf};
-use super::parts::Report;
+ghost use Rattle.reserved.specs.Shown.{codesOf};
 use super::passage::pass;
-use orders::Fault;
+use answers::Fault;
+use answers::Report;
 use orders::read_order;
-use units::Codes;
+use reserved::Codes;
 
 // The codes that the block is made with.
 fn codes_used() -> Codes

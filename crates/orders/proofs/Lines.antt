@@ -11,7 +11,7 @@ use Rattle.std.specs.declared.option.Option.the-variants.{Some, None}
 use Rattle.std.specs.declared.result.Result.{Result}
 use Rattle.std.specs.declared.result.Result.the-variants.{Ok, Err}
 use Rattle.text.specs.Number.{numberIn}
-use Rattle.orders.specs.Complaint.{Complaint, accepted}
+use Rattle.answers.specs.Complaint.{Complaint, accepted}
 use Rattle.orders.specs.Order.{putField, putFields}
 
 -- a complaint stays

@@ -1,3 +1,2 @@
-pub mod Complaint
 pub mod Order
 pub mod Shown

@@ -9,10 +9,10 @@ use Rattle.std.specs.declared.option.Option.the-variants.{Some, None}
 use Rattle.std.specs.declared.result.Result.{Result}
 use Rattle.std.specs.declared.result.Result.the-variants.{Ok, Err}
 use Rattle.blocks.specs.Block.{putting}
-use Rattle.units.specs.Acknowledgement.{acuFrom}
+use Rattle.acknowledgement.specs.Acu.{acuFrom}
 use Rattle.text.specs.Field.{fieldsOf}
 use Rattle.text.specs.Number.{numberIn}
-use Rattle.orders.specs.Complaint.{Complaint, missing, unclear, understood, accepted}
+use Rattle.answers.specs.Complaint.{Complaint, missing, unclear, understood, accepted}
 use Rattle.orders.specs.declared.parts.Form.{Form}
 use Rattle.orders.specs.declared.parts.Form.the-variants.{Binary, Decimal}
 

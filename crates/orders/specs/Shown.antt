@@ -1,6 +1,6 @@
 -- What an order of the code stands for.
 use Rattle.blocks.specs.Put.{contentsIn}
-use Rattle.units.specs.Signals.{acuFields}
+use Rattle.acknowledgement.specs.Shown.{acuFields}
 use Rattle.orders.specs.Order.{Ordered}
 use Rattle.orders.specs.declared.parts.Order.{Order}
 

@@ -1,8 +1,6 @@
-// Orders: a block to be sent, read from three lines of text, and what is wrong with lines that make none.
+// Orders: a block to be sent, read from three lines of text.
 mod parts;
 mod reading;
 
-pub use parts::Fault;
 pub use parts::Order;
-pub use parts::Trouble;
 pub use reading::read_order;

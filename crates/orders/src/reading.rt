@@ -1,7 +1,7 @@
 // An order, read from its three lines.
 ghost use mathlib.Core.Path.{_≡_};
 ghost use Rattle.blocks.specs.Put.{contentsIn};
-ghost use Rattle.orders.specs.Complaint.{heard, complaintOf};
+ghost use Rattle.answers.specs.Complaint.{heard, complaintOf};
 ghost use Rattle.orders.specs.Order.{contentsLine, putField, readAs, numberAt, endAt, behind, acuLine, marksLine, orderFrom};
 ghost use Rattle.orders.specs.Shown.{orderShown};
 ghost use Rattle.std.specs.Vec.{made};
@@ -9,16 +9,16 @@ ghost use Rattle.std.specs.declared.option.Option.the-variants.{Some, None};
 ghost use Rattle.std.specs.declared.result.Result.the-variants.{Ok, Err};
 ghost use Rattle.text.specs.Field.{fieldsOf};
 ghost use Rattle.text.specs.Number.{numberIn};
-ghost use Rattle.units.specs.Signals.{acuFields};
-use super::parts::Fault;
+ghost use Rattle.acknowledgement.specs.Shown.{acuFields};
 use super::parts::Form;
 use super::parts::Order;
-use super::parts::Trouble;
+use acknowledgement::Acu;
+use answers::Fault;
+use answers::Trouble;
 use blocks::OpenBlock;
+use reserved::Codes;
 use text::Fields;
 use text::number;
-use units::Acu;
-use units::Codes;
 
 // One field of the first line: its content is put into the block.
 fn put_field(block: &mut OpenBlock, place: u32, field: &[u8]) -> Result<(), Fault>

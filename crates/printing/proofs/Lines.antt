@@ -4,10 +4,10 @@ use mathlib.Core.List.{List, [], _∷_, _++_, map, append-assoc, append-nil}
 use Prim.Native.Nat.{ℕ, _+_, _≤_, _<_}
 use lib.ListN.{length, getD, take}
 use Rattle.std.proofs.shelf.Lists.{map-more, take-all}
-use Rattle.one_block.specs.Passage.{Passage}
+use Rattle.answers.specs.Seen.{Passage}
 use Rattle.printing.specs.Print.{placeText, lineText, placeLines}
-use Rattle.one_block.specs.Shown.{passageShown}
-use Rattle.one_block.specs.declared.parts.Arrival.{Arrival}
+use Rattle.answers.specs.Seen.{passageShown}
+use Rattle.answers.specs.declared.parts.Arrival.{Arrival}
 
 lines-push : (ps : List Passage) (p : Passage) → placeLines (ps ++ p ∷ []) ≡ placeLines ps ++ lineText (placeText p)
 lines-push [] p = append-nil (lineText (placeText p))

@@ -7,8 +7,8 @@ use Rattle.std.specs.declared.option.Option.{Option}
 use Rattle.std.specs.declared.option.Option.the-variants.{Some, None}
 use Rattle.std.specs.declared.result.Result.{Result}
 use Rattle.std.specs.declared.result.Result.the-variants.{Ok, Err}
-use Rattle.one_block.specs.Passage.{Passage, goodIn}
-use Rattle.orders.specs.Complaint.{Wrong, missing, unclear, refused, Complaint}
+use Rattle.answers.specs.Seen.{Passage, goodIn}
+use Rattle.answers.specs.Complaint.{Wrong, missing, unclear, refused, Complaint}
 use Rattle.printing.specs.Hex.{hexOf}
 
 -- A line ends with byte 10.

@@ -1,7 +1,7 @@
 // What is printed of a block that was sent, or of the fault in its order.
 ghost use mathlib.Core.List.{map};
-ghost use Rattle.one_block.specs.Shown.{passageShown};
-ghost use Rattle.orders.specs.Complaint.{wrongOf, heard};
+ghost use Rattle.answers.specs.Seen.{passageShown};
+ghost use Rattle.answers.specs.Complaint.{wrongOf, heard};
 ghost use Rattle.printing.specs.Print.{readingText, placeText, reportText, wrongText, answerText};
 ghost use Rattle.std.specs.declared.option.Option.the-variants.{Some};
 ghost use Rattle.words.specs.Seen.{seen};
@@ -9,10 +9,10 @@ use super::hexadecimal::Hex5;
 use super::hexadecimal::Hex5Display;
 use super::hexadecimal::Hex7;
 use super::hexadecimal::Hex7Display;
-use one_block::Arrival;
-use one_block::Report;
-use orders::Fault;
-use orders::Trouble;
+use answers::Arrival;
+use answers::Fault;
+use answers::Report;
+use answers::Trouble;
 use std::fmt;
 use words::Reading;
 

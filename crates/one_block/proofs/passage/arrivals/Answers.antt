@@ -8,7 +8,7 @@ use Rattle.std.proofs.shelf.Counted.{fill-by-all}
 use Rattle.std.proofs.shelf.Edits.{fill-by-more}
 use Rattle.std.proofs.shelf.Lists.{length-map, map-set}
 use Rattle.one_block.specs.Passage.{passageOf, passages}
-use Rattle.one_block.specs.Shown.{passageShown}
+use Rattle.answers.specs.Seen.{passageShown}
 use Rattle.one_block.proofs.Outcomes.{outcome}
 use Rattle.one_block.proofs.passage.arrivals.Needs as need
 

@@ -3,7 +3,7 @@ use mathlib.Core.List.{map}
 use Prim.Native.Nat.{ℕ, _+_, _<_}
 use lib.ListN.{length, getD}
 use Rattle.one_block.specs.Passage.{passageOf}
-use Rattle.one_block.specs.Shown.{passageShown}
+use Rattle.answers.specs.Seen.{passageShown}
 use Rattle.one_block.proofs.passage.arrivals.Given as given
 
 -- the places so far are as they have to be

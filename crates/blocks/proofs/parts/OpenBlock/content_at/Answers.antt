@@ -2,7 +2,7 @@ use mathlib.Core.Path.{_≡_, sym, _∙_}
 use Prim.Native.Nat.{_+_}
 use native.Mathlib.Omega.{arith}
 use Rattle.std.proofs.shelf.Ways.{tells}
-use Rattle.units.specs.Reserved.{syuOf}
+use Rattle.reserved.specs.Reserved.{syuOf}
 use Rattle.blocks.proofs.Places.{put-there, syu-there}
 use Rattle.blocks.proofs.parts.OpenBlock.content_at.Needs as need
 

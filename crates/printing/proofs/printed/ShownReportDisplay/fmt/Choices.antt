@@ -2,7 +2,7 @@ use mathlib.Core.List.{map}
 use lib.ListN.{take}
 use Rattle.std.specs.Written.{Plain, Put}
 use Rattle.printing.specs.Print.{placeLines}
-use Rattle.one_block.specs.Shown.{passageShown}
+use Rattle.answers.specs.Seen.{passageShown}
 use Rattle.printing.proofs.printed.ShownReportDisplay.fmt.Given as given
 
 -- the lines of the places so far are written

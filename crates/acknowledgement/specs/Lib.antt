@@ -1,0 +1,2 @@
+pub mod Acu
+pub mod Shown

@@ -1,0 +1,5 @@
+// Acknowledgement units.
+mod calls;
+mod parts;
+
+pub use parts::Acu;

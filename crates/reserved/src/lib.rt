@@ -1,0 +1,5 @@
+// Codes: the contents that are reserved, and synchronization units.
+mod calls;
+mod parts;
+
+pub use parts::Codes;

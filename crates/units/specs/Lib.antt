@@ -1,4 +1,0 @@
-pub mod Acknowledgement
-pub mod Fields
-pub mod Reserved
-pub mod Signals
