@@ -1,4 +1,6 @@
 // Acknowledgement units.
+#![tactic(auto)]
+
 mod calls;
 mod parts;
 

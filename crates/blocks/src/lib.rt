@@ -1,4 +1,6 @@
 // Blocks: an open block takes contents, closing makes a closed block of it, and a closed block is sent, once.
+#![tactic(auto)]
+
 mod moves;
 mod parts;
 

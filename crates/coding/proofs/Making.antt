@@ -1,6 +1,6 @@
 -- What a word is made of, and what it reads as.
-use Rattle.std.proofs.Common.{◌≡◌, ℕ, zero, suc, ◌+◌, ◌*◌, ◌/◌, ◌%◌, ◌^◌, ◌<◌, ◌≤◌, Bool, true, false, cond, Some, None, sym, refl, ap, ◌∙◌, subst₂, arith}
-use lib.Bits.{bit_xor, xor_assoc, xor_lt, xor_mod, xor_self, xor_shr, xor_zero_r}
+use Rattle.std.proofs.Common.{◌≡◌, ℕ, zero, suc, ◌/◌, ◌%◌, ◌^◌, ◌<◌, true, Some, None, sym, ap, ◌∙◌, subst₂, arith}
+use lib.Bits.{bit_xor, xor_assoc, xor_lt, xor_mod, xor_shr, xor_zero_r}
 use Rattle.std.proofs.lemmas.Bool.{cond-true}
 use Rattle.std.proofs.lemmas.Bool.Decides.{nat_tests}
 use Rattle.coding.specs.Polynomial.{times, OnlyRemainder}

@@ -1,5 +1,5 @@
 -- Laws of the sum of polynomials, which is the exclusive or.
-use Rattle.std.proofs.Common.{◌≡◌, ℕ, ◌+◌, ◌*◌, ◌^◌, ◌<◌, sym, refl, ap, ◌∙◌, ap₂, add-zero}
+use Rattle.std.proofs.Common.{◌≡◌, ℕ, ◌*◌, ◌^◌, ◌<◌, sym, ap, ◌∙◌, ap₂, add-zero}
 use lib.Bits.{bit_xor, xor_assoc, xor_block, xor_comm, xor_self, xor_zero_r}
 use Rattle.std.proofs.lemmas.Nat.{pow_pos}
 

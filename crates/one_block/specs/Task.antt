@@ -1,5 +1,5 @@
 -- The whole task: one block is ordered by three lines, sent, and looked at.
-use Rattle.std.specs.Prelude.{ℕ, List, map, Ok, Err, Option, Result}
+use Rattle.std.specs.Prelude.{ℕ, List, Ok, Err, Option, Result}
 use Rattle.blocks.specs.Block.{contents_of, block_of}
 use Rattle.acknowledgement.specs.Acu.{acu_of}
 use Rattle.reserved.specs.Reserved.{CodeNumbers}

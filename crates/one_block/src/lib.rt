@@ -1,4 +1,6 @@
 // One block sent and looked at: its order is read, the block passes, and what arrived is reported.
+#![tactic(auto)]
+
 mod passage;
 mod task;
 

@@ -1,4 +1,6 @@
 // Orders: a block to be sent, read from three lines of text.
+#![tactic(auto)]
+
 mod parts;
 mod reading;
 

@@ -1,4 +1,6 @@
 // What is printed of a block that was sent, or of the fault in its order.
+#![tactic(auto)]
+
 mod hexadecimal;
 mod printed;
 

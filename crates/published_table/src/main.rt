@@ -1,5 +1,7 @@
 // Holds the words of the contents 000 to 0FF against the published table of one-byte remainders, which is read from the
 // input: the last eight bits of each word have to be the inverted entry.
+#![tactic(auto)]
+
 ghost use Rattle.std.specs.Prelude.{◌≡◌, ◌%◌, ◌^◌, ◌&&◌, nat_lt};
 ghost use Rattle.coding.specs.Word.{inverted, word_of};
 ghost use Rattle.published_table.specs.Entry.{shows_remainder};

@@ -1,5 +1,5 @@
 // Codes: reserved contents and synchronization units.
-ghost use Rattle.std.specs.Prelude.{◌≡◌, true, ◌&&◌, leb, IfOk, if◌then◌else◌, Ok, Err, nat_le};
+ghost use Rattle.std.specs.Prelude.{◌≡◌, true, ◌&&◌, IfOk, if◌then◌else◌, Ok, Err, nat_le};
 ghost use Rattle.coding.specs.Bits.{bits};
 ghost use Rattle.reserved.specs.Reserved.{apart, acceptable, begins_with, reserved, syu_of};
 ghost use Rattle.reserved.specs.Shown.{codes_of};
@@ -47,10 +47,10 @@ impl Codes {
         acknowledgement: u32,
         pattern: u32,
     ) -> Result<Codes, Refusal>
-        ensures { answered codes_of result ≡ cond
-            (acceptable (record { changeover = changeover; load_transfer = load_transfer; acknowledgement = acknowledgement; pattern = pattern }))
-            (Ok (record { changeover = changeover; load_transfer = load_transfer; acknowledgement = acknowledgement; pattern = pattern }))
-            (Err 2) }
+        ensures { answered codes_of result ≡ (
+            if acceptable (record { changeover = changeover; load_transfer = load_transfer; acknowledgement = acknowledgement; pattern = pattern })
+            then Ok (record { changeover = changeover; load_transfer = load_transfer; acknowledgement = acknowledgement; pattern = pattern })
+            else Err 2) }
     {
         let Ok(changeover) = Content::new(changeover) else {
             return Err(Refusal::Settings);
@@ -87,7 +87,7 @@ impl Codes {
 
     /// The synchronization unit (SYU) of a place, 1 to 11. Another place is refused.
     pub fn syu(self, place: u32) -> Result<Content, Refusal>
-        ensures value { answered value_of result ≡ (if leb 1 place && nat_le place 11 then Ok (syu_of self.pattern place) else Err 4) }
+        ensures value { answered value_of result ≡ (if nat_le 1 place && nat_le place 11 then Ok (syu_of self.pattern place) else Err 4) }
         ensures layout { IfOk result (λ c. (bits 1 16 c.value ≡ self.pattern) × (bits 17 20 c.value ≡ place)) }
         ensures reserved { IfOk result (λ c. reserved (codes_of self) c.value ≡ true) }
     {

@@ -1,4 +1,6 @@
 // Codes: the contents that are reserved, and synchronization units.
+#![tactic(auto)]
+
 mod calls;
 mod parts;
 

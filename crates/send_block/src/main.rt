@@ -1,4 +1,6 @@
 // Sends the block that the first three lines of the input order, and prints what arrived or what is wrong with the order.
+#![tactic(auto)]
+
 use anyhow::anyhow;
 use one_block::answer;
 

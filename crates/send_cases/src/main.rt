@@ -1,4 +1,6 @@
 // Sends one block after another, each ordered by three lines of the input, and prints the answer to each.
+#![tactic(auto)]
+
 use one_block::answer;
 use std::io;
 

@@ -1,5 +1,5 @@
 -- A line cut at its blanks.
-use Rattle.std.proofs.Common.{◌≡◌, ℕ, zero, suc, ◌+◌, ◌<◌, ◌≤◌, true, false, cond, List, [], ◌∷◌, ◌++◌, length, get_or, take, drop, sym, refl, ap, ◌∙◌, ap₂, ⊎_elim, append_assoc, append-nil, not-suc-le-zero, add-zero, zero-lt-suc, suc-ne-zero, arith, length-drop, get_or-drop}
+use Rattle.std.proofs.Common.{◌≡◌, ℕ, zero, suc, ◌+◌, ◌<◌, ◌≤◌, true, false, List, [], ◌∷◌, ◌++◌, length, get_or, take, drop, sym, refl, ap, ◌∙◌, ap₂, ⊎_elim, append_assoc, append-nil, not-suc-le-zero, add-zero, zero-lt-suc, suc-ne-zero, arith, length-drop, get_or-drop}
 use Rattle.std.proofs.lemmas.List.{length-take-le}
 use Rattle.std.proofs.lemmas.Bool.{both_ways, cases_lt, cond-false, cond-true}
 use Rattle.text.specs.Field.{blank, ended, fields_behind, fields_of, Front}

@@ -1,4 +1,6 @@
 // Lines of text: the fields that a line is cut into, and the numbers that fields write.
+#![tactic(auto)]
+
 mod fields;
 mod numbers;
 

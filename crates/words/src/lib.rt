@@ -1,4 +1,6 @@
 // Words: what a signal unit is on a line, how a content is made into a word and read back, and the refusals of every call.
+#![tactic(auto)]
+
 mod codec;
 mod examples;
 mod parts;

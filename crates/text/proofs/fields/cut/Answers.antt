@@ -3,6 +3,6 @@ use Rattle.text.proofs.fields.cut.Goals as goal
 
 pub returns : goal.returns
 returns c = record {
-  none = no_field c.args.line.now _ _ _ _ _ c.run.ensures c.split-at.ensures.back c.run-2.ensures c.split-at-2.ensures.front c.split-at-2.ensures.back;
-  some = one_field c.args.line.now _ _ _ _ _ c.run.ensures c.split-at.ensures.back c.run-2.ensures c.split-at-2.ensures.front c.split-at-2.ensures.back;
+  none = no_field c.args.line.now _ _ _ _ _ c.run.ensures c.split_at.ensures.back c.run-2.ensures c.split_at-2.ensures.front c.split_at-2.ensures.back;
+  some = one_field c.args.line.now _ _ _ _ _ c.run.ensures c.split_at.ensures.back c.run-2.ensures c.split_at-2.ensures.front c.split_at-2.ensures.back;
 }

@@ -19,14 +19,14 @@ returns-then-n-eq0 t c =
 next : (t : ℕ) (c : goal.After-reduce t) → c.reduce.result ≡ remainder_of c.args.content.value c.args.n
 next t c =
     c.reduce.ensures
-    ∙ remainder_next c.args.content.value c.args.n _ c.if-n-eq0.false (c.from-before.ensures ∙ c.remainder-of-first.ensures.value)
+    ∙ remainder_next c.args.content.value c.args.n _ c.if-n-eq0.false (c.from-before.ensures ∙ c.remainder_of_first.ensures.value)
 
 pub returns : goal.returns
 returns t c = record { value = next t c; divides = stands c.args.content c.args.n _ c.requires (next t c) }
 
 -- what is cast is the remainder, which is below 2^8
-pub overflow-cast-result : goal.overflow-cast-result
-overflow-cast-result t c =
+pub overflow_cast-result : goal.overflow_cast-result
+overflow_cast-result t c =
     let content = c.args.content in
     let is = next t c in
     let small = (divides content.value content.short c.args.n c.requires).0 in

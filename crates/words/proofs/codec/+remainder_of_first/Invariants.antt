@@ -1,4 +1,4 @@
 use Rattle.words.proofs.codec.+remainder_of_first.Given as goal
 
-abbrev pub decreases-remainder-of-first : goal.decreases-remainder-of-first
-decreases-remainder-of-first l = l.n
+abbrev pub decreases-remainder_of_first : goal.decreases-remainder_of_first
+decreases-remainder_of_first l = l.n

@@ -1,4 +1,4 @@
-use Rattle.std.proofs.Common.{◌≡◌, ◌<◌, map, length, take, refl, ap, ◌∙◌, arith}
+use Rattle.std.proofs.Common.{◌<◌, map, length, take, refl, ap, ◌∙◌, arith}
 use Rattle.std.proofs.lemmas.List.{map_push, take_more_set}
 use Rattle.words.specs.Seen.{value_of}
 use Rattle.blocks.proofs.Places.{contents_length}

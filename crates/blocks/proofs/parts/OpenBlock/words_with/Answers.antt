@@ -10,7 +10,7 @@ loop-i-preserved c =
     let b = c.args.self.now in
     let acu = c.args.acu.value in
     let i = c.loop-i.i in
-    let is = c.word.ensures.value ∙ ap word_of (c.content-at.ensures acu) ∙ sym (word_at b.codes.pattern (contents_in b) acu (few b) i (omega arith)) in
+    let is = c.word.ensures.value ∙ ap word_of (c.content_at.ensures acu) ∙ sym (word_at b.codes.pattern (contents_in b) acu (few b) i (omega arith)) in
     filled_more _ c.loop-i.words i _ (omega arith) is c.loop-i.invariant
 
 pub returns : goal.returns

@@ -10,4 +10,4 @@ pub returns-clause-writes : goal.returns-clause-writes
 returns-clause-writes g c plain ok =
     let letter = c.letter.result in
     let byte : encode letter ≡ glyph (c.args.self.now.0 % 16) ∷ [] = encode_ascii letter c.letter.ensures.ascii ∙ ap (λ (b : ℕ). b ∷ []) c.letter.ensures.value in
-    subst (λ (bs : List ℕ). HasWritten g.W.Write.write_str_gives c.args.f.now bs c.write-char.new.self) byte (c.write-char.ensures.writes plain ok)
+    subst (λ (bs : List ℕ). HasWritten g.W.Write.write_str_gives c.args.f.now bs c.write_char.new.self) byte (c.write_char.ensures.writes plain ok)

@@ -1,4 +1,4 @@
-use Rattle.std.proofs.Common.{◌≡◌, ℕ, List, ◌++◌, map, codes, decimal, refl, ap, ◌∙◌, ap₂, arith}
+use Rattle.std.proofs.Common.{ℕ, List, ◌++◌, codes, decimal, refl, ap, ap₂, arith}
 use Rattle.std.proofs.Output.{has_written_of_eq, has_written_append}
 use Rattle.printing.specs.Print.{line_text}
 use Rattle.printing.proofs.Lines.{lines_more, lines_all}
@@ -9,7 +9,7 @@ loop-arrival-preserved g c plain =
     let long = c.args.self.now.0.now.twelve in
     let so_far = c.loop-arrival.invariant plain in
     has_written_of_eq g.W.Write.write_str_gives c.args.f.now _ _ _ (lines_more c.args.self.now.0.now.arrivals c.loop-arrival.arrival-index _ (omega arith))
-    (has_written_append g.W.Write.write_str_gives c.args.f.now _ _ _ _ so_far (c.in-ok-writeln.ensures.shows so_far.plain refl))
+    (has_written_append g.W.Write.write_str_gives c.args.f.now _ _ _ _ so_far (c.in_ok-writeln.ensures.writes so_far.plain refl))
 
 pub returns-clause-writes : goal.returns-clause-writes
 returns-clause-writes g c plain ok =
