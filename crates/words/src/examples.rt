@@ -6,6 +6,7 @@ ghost use Rattle.words.specs.Seen.{seen};
 use super::codec::{Reading, read};
 
 /// What the numbers of the worked examples read as: five words, and two numbers that do not check.
+#[tactic(auto, unfolding(coding::specs::Remainder::remainder_of))]
 pub fn read_examples() -> [Reading; 7]
     ensures definitions { ExamplesAgree }
     ensures read { map seen result ≡ map (λ row. row.1) examples }
