@@ -1,2 +1,1 @@
 pub mod Acu
-pub mod Shown

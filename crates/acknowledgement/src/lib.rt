@@ -2,6 +2,7 @@
 #![tactic(auto)]
 
 mod calls;
-mod parts;
+mod fields;
 
-pub use parts::Acu;
+pub use calls::Acu;
+pub use fields::AcuFields;

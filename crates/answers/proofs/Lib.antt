@@ -1,1 +1,1 @@
-pub mod Goods
+pub mod Lines

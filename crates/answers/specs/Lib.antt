@@ -1,2 +1,3 @@
-pub mod Complaint
-pub mod Seen
+pub mod Good
+pub mod Print
+pub mod Troubled

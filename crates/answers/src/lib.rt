@@ -2,6 +2,9 @@
 #![tactic(auto)]
 
 mod counting;
+mod faults;
 mod parts;
+mod showing;
 
 pub use parts::{Arrival, Fault, Report, Trouble};
+pub use showing::Printed;

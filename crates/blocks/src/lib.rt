@@ -2,6 +2,5 @@
 #![tactic(auto)]
 
 mod moves;
-mod parts;
 
-pub use parts::{ClosedBlock, OpenBlock};
+pub use moves::{ClosedBlock, OpenBlock};

@@ -1,95 +1,91 @@
 // From an open block to a closed one, and on to the line.
-ghost use Rattle.std.specs.Prelude.{◌≡◌, ℕ, ◌<◌, true, [], ◌∷◌, ◌++◌, map, length, Some, OnErr, nat_le, slice_index};
-ghost use Rattle.blocks.specs.Block.{putting, contents_of, block_of, is_acu, sound};
-ghost use Rattle.blocks.specs.Put.{contents_in};
-ghost use Rattle.acknowledgement.specs.Shown.{acu_content};
-ghost use Rattle.words.specs.Refusals.{answered};
-ghost use Rattle.coding.specs.Word.{reading_of};
+ghost use Rattle.std.specs.Prelude.{◌≡◌, ◌<◌, ◌≤◌, true, [], List, ℕ, map, length, Some, Ok, OnErr, slice_index};
+ghost use Rattle.acknowledgement.specs.Acu.{acu_of};
+ghost use Rattle.blocks.specs.Block.{Opened, leaving, putting, contents_of, block_of, sound};
+ghost use Rattle.coding.specs.Word.{word_of, reading_of};
 
-use super::parts::{ClosedBlock, OpenBlock};
 use acknowledgement::Acu;
+use arrayvec::ArrayVec;
 use reserved::Codes;
+use std::array;
+use std::marker::Model;
 use words::{Content, Refusal};
+
+/// A block that still takes contents. Clauses see the codes that it was begun with, and the contents that were put.
+#[derive(Debug, Drop)]
+pub struct OpenBlock {
+    codes: Codes,
+    contents: ArrayVec<Content, 11>,
+}
+
+impl Model for OpenBlock {
+    ghost Value = { Opened };
+
+    ghost view = { λ block. record { codes = block.codes; contents = block.contents.items } };
+
+    ghost invariant = { λ block. length block.contents.items ≤ 11 };
+}
+
+/// A block that is complete: twelve words that check, the acknowledgement unit's last. Clauses see the words.
+#[derive(Debug, Drop)]
+pub struct ClosedBlock {
+    words: [u32; 12],
+}
+
+impl Model for ClosedBlock {
+    ghost Value = { List ℕ };
+
+    ghost view = { λ block. block.words };
+
+    ghost invariant = { λ block. sound block.words ≡ true };
+}
 
 impl OpenBlock {
     /// A block with nothing in it.
     pub fn begin(codes: Codes) -> OpenBlock
-        ensures contents { contents_in result ≡ [] }
-        ensures codes { result.codes ≡ codes }
+        ensures { result ≡ record { codes = codes; contents = [] } }
     {
-        let nothing = Content::new(0).unwrap();
         OpenBlock {
             codes,
-            contents: [nothing; 11],
-            count: 0,
+            contents: ArrayVec::new(),
         }
     }
 
     /// One content more. A content from 2^20 on is refused, and so is a twelfth; the block then stays as it was.
     pub fn put(&mut self, content: u32) -> Result<(), Refusal>
-        ensures answer { answered (λ _. contents_in self.new) result ≡ putting content (contents_in self.old) }
-        ensures codes { self.new.codes ≡ self.old.codes }
+        ensures answer { leaving self.new result ≡ putting content self.old }
         ensures same { OnErr result (self.new ≡ self.old) }
     {
-        let content = Content::new(content)?;
-        if self.is_full() {
+        let content = Content::try_from(content)?;
+        if self.contents.is_full() {
             return Err(Refusal::BlockFull);
         }
-        self.push(content);
+        self.contents.push(content);
         Ok(())
     }
 
-    // Whether all eleven places are taken.
-    fn is_full(&self) -> bool
-        ensures { result ≡ nat_le 11 (length (contents_in self.now)) }
+    // The content of a place of the closed block, counted from 0: what was put there, the place's SYU, or at the end the ACU.
+    #[tactic(auto, using(crate::proofs::Places::at_left, crate::proofs::Places::at_last))]
+    fn content_at(&self, i: usize, acu: Content) -> Content
+        requires { i < 12 }
+        ensures value { result ≡ slice_index (contents_of self.now acu) i }
+        ensures few { length self.now.contents ≤ 11 }
     {
-        self.count >= 11
-    }
-
-    // One content more, where a place is free.
-    fn push(&mut self, content: Content)
-        requires { length (contents_in self.old) < 11 }
-        ensures contents { contents_in self.new ≡ contents_in self.old ++ content.value ∷ [] }
-        ensures codes { self.new.codes ≡ self.old.codes }
-    {
-        self.contents[self.count] = content;
-        self.count += 1;
-    }
-
-    // The content of a place of the closed block, counted from 0: what was put there, or else the place's SYU.
-    fn content_at(&self, i: usize) -> Content
-        requires { i < 11 }
-        ensures { (acu : ℕ) → result.value ≡ slice_index (contents_of self.now.codes.pattern (contents_in self.now) acu) i }
-    {
-        if i < self.count {
-            self.contents[i]
-        } else {
-            self.codes.syu(i as u32 + 1).unwrap()
+        match self.contents.get(i) {
+            Some(content) => *content,
+            None if i < 11 => self.codes.syu(i as u32 + 1).unwrap(),
+            None => acu,
         }
-    }
-
-    // The twelve words of the block, with the content of its ACU.
-    fn words_with(&self, acu: Content) -> [u32; 12]
-        requires { is_acu acu.value ≡ true }
-        ensures value { result ≡ block_of self.now.codes.pattern (contents_in self.now) acu.value }
-        ensures sound { sound result ≡ true }
-        ensures reads { map reading_of result ≡ map Some (contents_of self.now.codes.pattern (contents_in self.now) acu.value) }
-    {
-        let mut words = [0; 12];
-        for i in 0..11 {
-            words[i] = self.content_at(i).word();
-        }
-        words[11] = acu.word();
-        words
     }
 
     /// The block closed: each place that is left of the eleven gets its SYU, and the ACU comes last.
     pub fn close(self, acu: Acu) -> ClosedBlock
-        ensures words { result.words ≡ block_of self.codes.pattern (contents_in self) (acu_content acu) }
-        ensures reads { map reading_of result.words ≡ map Some (contents_of self.codes.pattern (contents_in self) (acu_content acu)) }
+        ensures words { result ≡ block_of self (acu_of acu) }
+        ensures reads { map reading_of result ≡ map Some (contents_of self (acu_of acu)) }
     {
+        let acu = acu.content();
         ClosedBlock {
-            words: self.words_with(acu.content()),
+            words: array::from_fn(|i| self.content_at(i, acu).word()),
         }
     }
 }
@@ -97,7 +93,7 @@ impl OpenBlock {
 impl ClosedBlock {
     /// The twelve words of the block, which is used up.
     pub fn send(self) -> [u32; 12]
-        ensures value { result ≡ self.words }
+        ensures value { result ≡ self }
         ensures sound { sound result ≡ true }
     {
         self.words

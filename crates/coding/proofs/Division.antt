@@ -1,5 +1,5 @@
 -- The remainder that is worked out bit by bit is the remainder of a division, and there is no other.
-use Rattle.std.proofs.Common.{◌≡◌, ℕ, zero, suc, ◌+◌, ◌-◌, ◌*◌, ◌/◌, ◌^◌, ◌<◌, ◌≤◌, sym, refl, ap, ◌∙◌, ap₂, ⊎_elim, arith}
+use Rattle.std.proofs.Common.{◌≡◌, ℕ, zero, suc, ◌+◌, ◌-◌, ◌*◌, ◌/◌, ◌^◌, ◌<◌, ◌≤◌, sym, refl, ap, ◌∙◌, subst, ap₂, ⊎_elim, arith}
 use lib.Bits.{bit_xor, xor_assoc, xor_comm, xor_lt, xor_shr, xor_zero_r}
 use Rattle.std.proofs.lemmas.Nat.{shr-shr}
 use Rattle.std.proofs.lemmas.Bool.{cases_lt, cond_above, cond_below}
@@ -76,10 +76,11 @@ divides content short (suc n) h =
     (w.1.1, q * 2 + t, all ∙ sym back)
 
 -- It is the only one.
-pub divides_only : (content n : ℕ) → content < 2 ^ 20 → n ≤ 20 → OnlyRemainder (times (first n content) (2 ^ 8)) (remainder_of content n)
-divides_only content n short h =
-    let r = divides content short n h in
-    (r, λ s other. only _ s _ other r)
+pub divides_only : (content n r : ℕ) → content < 2 ^ 20 → n ≤ 20 → r ≡ remainder_of content n → OnlyRemainder (times (first n content) (2 ^ 8)) r
+unfolding OnlyRemainder
+divides_only content n r short h is =
+    let remains = subst (Remains (times (first n content) (2 ^ 8))) (sym is) (divides content short n h) in
+    (remains, λ s other. only _ s _ other remains)
 
 -- ---- the remainder as it is worked out
 
@@ -98,3 +99,8 @@ remainder_more content (suc n) some =
 pub remainder_next : (content n before : ℕ) → (n ≡ 0 → ⊥) → before ≡ remainder_of content (n - 1) → reduced (bit_xor (before * 2) (bit n content * 2 ^ 8)) ≡ remainder_of content n
 remainder_next content n before some is =
     ap (λ r. reduced (bit_xor (r * 2) (bit n content * 2 ^ 8))) is ∙ sym (remainder_more content n some)
+
+-- which has eight bits
+pub next_below : (content n before : ℕ) → content < 2 ^ 20 → n ≤ 20 → (n ≡ 0 → ⊥) → before ≡ remainder_of content (n - 1) → reduced (bit_xor (before * 2) (bit n content * 2 ^ 8)) < 2 ^ 8
+next_below content n before short h some is =
+    subst (λ r. r < 2 ^ 8) (sym (remainder_next content n before some is)) (divides content short n h).0

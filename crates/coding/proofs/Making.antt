@@ -1,5 +1,5 @@
 -- What a word is made of, and what it reads as.
-use Rattle.std.proofs.Common.{◌≡◌, ℕ, zero, suc, ◌/◌, ◌%◌, ◌^◌, ◌<◌, true, Some, None, sym, ap, ◌∙◌, subst₂, arith}
+use Rattle.std.proofs.Common.{◌≡◌, ℕ, zero, suc, ◌/◌, ◌%◌, ◌^◌, ◌<◌, true, Some, None, sym, ap, ◌∙◌, subst, arith}
 use lib.Bits.{bit_xor, xor_assoc, xor_lt, xor_mod, xor_shr, xor_zero_r}
 use Rattle.std.proofs.lemmas.Bool.{cond-true}
 use Rattle.std.proofs.lemmas.Bool.Decides.{nat_tests}
@@ -34,11 +34,11 @@ module _ (content : ℕ) (short : content < 2 ^ 20) where
   word_reads = cond-true (checks (word_of content)) (Some (word_of content / 2 ^ 8)) None word_checks ∙ ap Some word_content
 
   -- the check is the remainder of a division
-  pub word_divides : OnlyRemainder (times content (2 ^ 8)) (inverted (word_of content % 2 ^ 8))
-  word_divides =
+  pub word_divides : (word : ℕ) → word ≡ word_of content → OnlyRemainder (times content (2 ^ 8)) (inverted (word % 2 ^ 8))
+  word_divides word made =
       let whole : first 20 content ≡ content = omega arith in
-      let is : remainder_of content 20 ≡ inverted (word_of content % 2 ^ 8) = sym (ap inverted word_check ∙ inverted_twice (remainder_of content 20)) in
-      subst₂ (λ a r. OnlyRemainder (times a (2 ^ 8)) r) whole is (divides_only content 20 short (omega arith))
+      let is : inverted (word % 2 ^ 8) ≡ remainder_of content 20 = ap (λ w. inverted (w % 2 ^ 8)) made ∙ ap inverted word_check ∙ inverted_twice (remainder_of content 20) in
+      subst (λ a. OnlyRemainder (times a (2 ^ 8)) (inverted (word % 2 ^ 8))) whole (divides_only content 20 _ short (omega arith) is)
 
 -- what reads as good was made from that content
 pub read_made : (number content : ℕ) → reading_of number ≡ Some content → number ≡ word_of content

@@ -23,5 +23,5 @@ abbrev pub Remains : ℕ → ℕ → Type 0
 Remains a r = (r < 2 ^ 8) × (q : ℕ) × (a ≡ bit_xor (times q divisor) r)
 
 -- r remains of a, and nothing else does.
-abbrev pub OnlyRemainder : ℕ → ℕ → Type 0
+unfoldable pub OnlyRemainder : ℕ → ℕ → Type 0
 OnlyRemainder a r = Remains a r × ((s : ℕ) → Remains a s → s ≡ r)

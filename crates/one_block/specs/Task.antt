@@ -1,27 +1,28 @@
 -- The whole task: one block is ordered by three lines, sent, and looked at.
 use Rattle.std.specs.Prelude.{ℕ, List, Ok, Err, Option, Result}
-use Rattle.blocks.specs.Block.{contents_of, block_of}
 use Rattle.acknowledgement.specs.Acu.{acu_of}
-use Rattle.reserved.specs.Reserved.{CodeNumbers}
-use Rattle.answers.specs.Complaint.{Complaint}
-use Rattle.answers.specs.Seen.{Passage}
-use Rattle.orders.specs.Order.{Ordered}
-use Rattle.one_block.specs.Passage.{passages, outcomes}
+use Rattle.answers.specs.declared.parts.Arrival.{Arrival}
+use Rattle.answers.specs.declared.parts.Fault.{Fault}
+use Rattle.blocks.specs.Block.{contents_of, block_of}
+use Rattle.one_block.specs.Passage.{passages, readings, outcomes}
+use Rattle.orders.specs.declared.parts.Order.{Order}
+use Rattle.reserved.specs.declared.numbers.CodeNumbers.{CodeNumbers}
 
 -- The codes that the block is made with.
 abbrev pub codes_used : CodeNumbers
 codes_used = record { changeover = 0xA0001; load_transfer = 0xA0002; acknowledgement = 0xA0003; pattern = 0xB000 }
 
--- The content of the ACU that was ordered.
-abbrev pub acu_ordered : Ordered → ℕ
-acu_ordered o = acu_of o.acu.0 o.acu.1 o.acu.2
-
 -- What is seen at the twelve places.
-abbrev pub reported : Result Ordered Complaint → Result (List Passage) Complaint
-reported (Ok o) = Ok (passages o.marks (block_of codes_used.pattern o.contents (acu_ordered o)))
-reported (Err e) = Err e
+abbrev pub reported : Result Order Fault → Result (List Arrival) Fault
+reported (Ok o) = Ok (passages o.marks (block_of o.block (acu_of o.acu)))
+reported (Err fault) = Err fault
 
--- What is read at the twelve places: the content that stands there in the block, unless the place is marked.
-abbrev pub arrived : Result Ordered Complaint → Result (List (Option ℕ)) Complaint
-arrived (Ok o) = Ok (outcomes o.marks (contents_of codes_used.pattern o.contents (acu_ordered o)))
-arrived (Err e) = Err e
+-- What was read at the twelve places of a report.
+abbrev pub read_in : Result (List Arrival) Fault → Result (List (Option ℕ)) Fault
+read_in (Ok arrivals) = Ok (readings arrivals)
+read_in (Err fault) = Err fault
+
+-- What has to be read at the twelve places: the content that stands there in the block, unless the place is marked.
+abbrev pub arrived : Result Order Fault → Result (List (Option ℕ)) Fault
+arrived (Ok o) = Ok (outcomes o.marks (contents_of o.block (acu_of o.acu)))
+arrived (Err fault) = Err fault

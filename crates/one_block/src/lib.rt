@@ -4,4 +4,5 @@
 mod passage;
 mod task;
 
+pub use orders::Lines;
 pub use task::{answer, send_block};

@@ -4,5 +4,5 @@
 mod parts;
 mod reading;
 
-pub use parts::Order;
+pub use parts::{Lines, Order};
 pub use reading::read_order;

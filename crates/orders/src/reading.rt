@@ -1,53 +1,36 @@
 // An order, read from its three lines.
-ghost use Rattle.std.specs.Prelude.{◌≡◌, IfOk, Some, None, Ok, Err};
-ghost use Rattle.blocks.specs.Put.{contents_in};
-ghost use Rattle.answers.specs.Complaint.{heard, complaint_of};
-ghost use Rattle.orders.specs.Order.{contents_line, put_field, read_as, number_at, end_at, behind, acu_line, marks_line, order_from};
-ghost use Rattle.orders.specs.Shown.{order_shown};
+ghost use Rattle.std.specs.Prelude.{◌≡◌, OnErr};
+ghost use Rattle.answers.specs.Troubled.{accepted, at_field};
+ghost use Rattle.blocks.specs.Block.{leaving};
+ghost use Rattle.orders.specs.Order.{contents_line, put_field, read_as, number_next, end_next, behind, acu_line, marks_line, order_from};
 ghost use Rattle.text.specs.Field.{fields_of};
 ghost use Rattle.text.specs.Number.{number_in};
-ghost use Rattle.acknowledgement.specs.Shown.{acu_fields};
 
-use super::parts::{Form, Order};
-use acknowledgement::Acu;
+use super::parts::{Form, Lines, Order};
+use acknowledgement::{Acu, AcuFields};
 use answers::{Fault, Trouble};
 use blocks::OpenBlock;
 use reserved::Codes;
 use text::{Fields, number};
 
 // One field of the first line: its content is put into the block.
-fn put_field(block: &mut OpenBlock, place: u32, field: &[u8]) -> Result<(), Fault>
-    ensures answer { heard (λ _. contents_in block.new) result ≡ put_field place (number_in 16 field.now) (contents_in block.old) }
-    ensures codes { block.new.codes ≡ block.old.codes }
+fn put_field(block: &mut OpenBlock, field: &[u8]) -> Result<(), Trouble>
+    ensures answer { leaving block.new result ≡ put_field (number_in 16 field.now) block.old }
+    ensures same { OnErr result (block.new ≡ block.old) }
 {
-    let Some(content) = number(16, field) else {
-        return Err(Fault {
-            line: 1,
-            place,
-            trouble: Trouble::Unclear,
-        });
-    };
-    match block.put(content) {
-        Ok(()) => Ok(()),
-        Err(refusal) => Err(Fault {
-            line: 1,
-            place,
-            trouble: Trouble::Refused(refusal),
-        }),
-    }
+    let content = number(16, field).ok_or(Trouble::Unclear)?;
+    block.put(content)?;
+    Ok(())
 }
 
 // The first line: a block with its contents.
+#[tactic(auto, using(crate::proofs::Faults::fault_stays))]
 fn contents_line(codes: Codes, line: &[u8]) -> Result<OpenBlock, Fault>
-    ensures answer { heard contents_in result ≡ contents_line line.now }
-    ensures codes { IfOk result (λ block. block.codes ≡ codes) }
+    ensures { result ≡ contents_line codes line.now }
 {
     let mut block = OpenBlock::begin(codes);
-    let mut fields = Fields::of(line);
-    let mut place = 1;
-    while let Some(field) = fields.take_next() {
-        put_field(&mut block, place, field)?;
-        place += 1;
+    for (field, place) in Fields::of(line).zip(1..) {
+        put_field(&mut block, field).map_err(|trouble| trouble.at(1, place))?;
     }
     Ok(block)
 }
@@ -64,79 +47,62 @@ fn number_as(form: Form, field: &[u8]) -> Option<u32>
 }
 
 // The number of the next field of a line.
-fn next_number(fields: &mut Fields, line: u32, place: u32, form: Form) -> Result<u32, Fault>
-    ensures answer { heard (λ v. v) result ≡ number_at line place form (fields_of fields.old.rest.now) }
+fn next_number(fields: &mut Fields, form: Form) -> Result<u32, Trouble>
+    ensures answer { result ≡ number_next form (fields_of fields.old.rest.now) }
     ensures rest { fields_of fields.new.rest.now ≡ behind (fields_of fields.old.rest.now) }
 {
-    let Some(field) = fields.take_next() else {
-        return Err(Fault {
-            line,
-            place,
-            trouble: Trouble::Missing,
-        });
-    };
-    match number_as(form, field) {
-        Some(number) => Ok(number),
-        None => Err(Fault {
-            line,
-            place,
-            trouble: Trouble::Unclear,
-        }),
-    }
+    let field = fields.next().ok_or(Trouble::Missing)?;
+    number_as(form, field).ok_or(Trouble::Unclear)
 }
 
 // That a line has no further field.
-fn no_more(fields: &mut Fields, line: u32, place: u32) -> Result<(), Fault>
-    ensures { heard (λ v. v) result ≡ end_at line place (fields_of fields.old.rest.now) }
+fn no_more(fields: &mut Fields) -> Result<(), Trouble>
+    ensures { result ≡ end_next (fields_of fields.old.rest.now) }
 {
-    match fields.take_next() {
+    // two arms: a chain of `map_or` or `ok_or` would turn `None` into the good case, which reads no plainer
+    match fields.next() {
         None => Ok(()),
-        Some(_) => Err(Fault {
-            line,
-            place,
-            trouble: Trouble::Unclear,
-        }),
+        Some(_) => Err(Trouble::Unclear),
     }
 }
 
 // The second line: an ACU.
 fn acu_line(line: &[u8]) -> Result<Acu, Fault>
-    ensures { heard acu_fields result ≡ acu_line line.now }
+    ensures { result ≡ acu_line line.now }
 {
     let mut fields = Fields::of(line);
-    let indicators = next_number(&mut fields, 2, 1, Form::Binary(11))?;
-    let acknowledged = next_number(&mut fields, 2, 2, Form::Decimal)?;
-    let number = next_number(&mut fields, 2, 3, Form::Decimal)?;
-    no_more(&mut fields, 2, 4)?;
+    let indicators = next_number(&mut fields, Form::Binary(11)).map_err(|trouble| trouble.at(
+        2, 1,
+    ))?;
+    let acknowledged = next_number(&mut fields, Form::Decimal).map_err(|trouble| trouble.at(2, 2))?;
+    let number = next_number(&mut fields, Form::Decimal).map_err(|trouble| trouble.at(2, 3))?;
+    no_more(&mut fields).map_err(|trouble| trouble.at(2, 4))?;
     let place = if acknowledged < 8 { 3 } else { 2 };
-    match Acu::new(indicators, acknowledged, number) {
-        Ok(acu) => Ok(acu),
-        Err(refusal) => Err(Fault {
-            line: 2,
-            place,
-            trouble: Trouble::Refused(refusal),
-        }),
-    }
+    let fields = AcuFields {
+        indicators,
+        acknowledged,
+        number,
+    };
+    Acu::try_from(fields).map_err(|refusal| Trouble::Refused(refusal).at(2, place))
 }
 
 // The third line: the marks.
 fn marks_line(line: &[u8]) -> Result<u32, Fault>
-    ensures { heard (λ v. v) result ≡ marks_line line.now }
+    ensures { result ≡ marks_line line.now }
 {
     let mut fields = Fields::of(line);
-    let marks = next_number(&mut fields, 3, 1, Form::Binary(12))?;
-    no_more(&mut fields, 3, 2)?;
+    let marks = next_number(&mut fields, Form::Binary(12)).map_err(|trouble| trouble.at(3, 1))?;
+    no_more(&mut fields).map_err(|trouble| trouble.at(3, 2))?;
     Ok(marks)
 }
 
 /// An order from its three lines: the contents in hexadecimal, the fields of the ACU, and the marks. The block is begun with
 /// the codes given.
-pub fn read_order(codes: Codes, contents: &[u8], acu: &[u8], marks: &[u8]) -> Result<Order, Fault>
-    ensures answer { heard order_shown result ≡ order_from contents.now acu.now marks.now }
-    ensures codes { IfOk result (λ order. order.block.codes ≡ codes) }
+pub fn read_order(codes: Codes, lines: Lines) -> Result<Order, Fault>
+    ensures { result ≡ order_from codes lines.entry }
 {
-    let block = contents_line(codes, contents)?;
-    let acu = acu_line(acu)?;
-    let marks = marks_line(marks)?;
+    let block = contents_line(codes, lines.contents)?;
+    let acu = acu_line(lines.acu)?;
+    let marks = marks_line(lines.marks)?;
     Ok(Order { block, acu, marks })
 }

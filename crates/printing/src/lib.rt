@@ -1,7 +1,6 @@
-// What is printed of a block that was sent, or of the fault in its order.
+// Numbers as they are printed.
 #![tactic(auto)]
 
 mod hexadecimal;
-mod printed;
 
-pub use printed::Printed;
+pub use hexadecimal::Hex;

@@ -13,7 +13,7 @@ use words::Content;
 
 // The remainder that the word of a content shows: its last eight bits, each inverted.
 fn remainder_in_word(content: Content) -> u32
-    ensures { result ≡ inverted (word_of content.value % 2 ^ 8) }
+    ensures { result ≡ inverted (word_of content % 2 ^ 8) }
 {
     (content.word() % 256) ^ 0xff
 }
@@ -22,27 +22,20 @@ fn remainder_in_word(content: Content) -> u32
 fn agrees(content: u32, entry: &[u8]) -> bool
     ensures { result ≡ nat_lt content (2 ^ 20) && shows_remainder content (number_in 16 entry.now) }
 {
-    let Ok(content) = Content::new(content) else {
-        return false;
-    };
-    match number(16, entry) {
-        Some(remainder) => remainder == remainder_in_word(content),
-        None => false,
-    }
+    Content::try_from(content).is_ok_and(|content| number(16, entry)
+        == Some(remainder_in_word(content)))
 }
 
+#[tactic(auto, using(text::proofs::Cutting::fields_le))]
 fn main(rt: HostRuntime) -> anyhow::Result<()> {
     let mut table = String::new(rt.alloc());
     rt.stdin().read_to_string(&mut table)?;
-    let mut entries = Fields::of(table.as_bytes());
-    let mut content: u32 = 0;
-    let mut agreeing: u32 = 0;
-    while let Some(entry) = entries.take_next() {
-        if agrees(content, entry) {
-            agreeing = agreeing.saturating_add(1);
-        }
-        content = content.saturating_add(1);
-    }
-    println!(rt; "{content} entries, {agreeing} agree")?;
+    let entries = Fields::of(table.as_bytes());
+    let all = entries.count();
+    let agreeing = entries
+        .zip(0..)
+        .filter(|(entry, content)| agrees(*content, entry))
+        .count();
+    println!(rt; "{all} entries, {agreeing} agree")?;
     Ok(())
 }

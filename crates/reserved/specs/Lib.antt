@@ -1,2 +1,1 @@
 pub mod Reserved
-pub mod Shown

@@ -1,14 +1,7 @@
 -- Reserved contents: the three control signals, and whatever begins with the synchronization pattern.
 use Rattle.std.specs.Prelude.{ℕ, ◌+◌, ◌*◌, ◌^◌, Bool, not, ◌&&◌, ◌||◌, ◌==◌, nat_lt}
 use Rattle.coding.specs.Bits.{bits}
-
--- The codes are four settings: the contents of the changeover, the load-transfer and the load-transfer-acknowledgement
--- signal, and the synchronization pattern.
-pub record CodeNumbers : Type 0 where
-  pub changeover : ℕ
-  pub load_transfer : ℕ
-  pub acknowledgement : ℕ
-  pub pattern : ℕ
+use Rattle.reserved.specs.declared.numbers.CodeNumbers.{CodeNumbers}
 
 -- A content begins with the pattern where its first sixteen bits are the pattern.
 abbrev pub begins_with : ℕ → ℕ → Bool

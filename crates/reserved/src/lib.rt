@@ -2,6 +2,7 @@
 #![tactic(auto)]
 
 mod calls;
-mod parts;
+mod numbers;
 
-pub use parts::Codes;
+pub use calls::Codes;
+pub use numbers::CodeNumbers;

@@ -2,23 +2,23 @@
 #![tactic(auto)]
 
 use anyhow::anyhow;
-use one_block::answer;
+use one_block::{Lines, answer};
 
 fn run(rt: &HostRuntime) -> anyhow::Result<()> {
-    let mut first = String::new(rt.alloc());
-    let mut second = String::new(rt.alloc());
-    let mut third = String::new(rt.alloc());
-    rt.read_line(&mut first)?;
-    rt.read_line(&mut second)?;
-    rt.read_line(&mut third)?;
-    let answer = answer(first.as_bytes(), second.as_bytes(), third.as_bytes());
-    let sent = answer.0.is_ok();
+    let mut contents = String::new(rt.alloc());
+    let mut acu = String::new(rt.alloc());
+    let mut marks = String::new(rt.alloc());
+    rt.read_line(&mut contents)?;
+    rt.read_line(&mut acu)?;
+    rt.read_line(&mut marks)?;
+    let answer = answer(Lines {
+        contents: contents.as_bytes(),
+        acu: acu.as_bytes(),
+        marks: marks.as_bytes(),
+    });
     print!(rt; "{answer}")?;
-    if sent {
-        Ok(())
-    } else {
-        Err(anyhow!("the block was not sent"))
-    }
+    answer.0.map_err(|_| anyhow!("the block was not sent"))?;
+    Ok(())
 }
 
 fn main(rt: HostRuntime) -> anyhow::Result<()> {

@@ -1,72 +1,58 @@
 -- A line cut at its blanks.
-use Rattle.std.proofs.Common.{◌≡◌, ℕ, zero, suc, ◌+◌, ◌<◌, ◌≤◌, true, false, List, [], ◌∷◌, ◌++◌, length, get_or, take, drop, sym, refl, ap, ◌∙◌, ap₂, ⊎_elim, append_assoc, append-nil, not-suc-le-zero, add-zero, zero-lt-suc, suc-ne-zero, arith, length-drop, get_or-drop}
-use Rattle.std.proofs.lemmas.List.{length-take-le}
-use Rattle.std.proofs.lemmas.Bool.{both_ways, cases_lt, cond-false, cond-true}
-use Rattle.text.specs.Field.{blank, ended, fields_behind, fields_of, Front}
+use Rattle.std.proofs.Common.{◌≡◌, ℕ, ◌<◌, Bool, false, not, position, List, [], ◌∷◌, ◌++◌, length, get_or, take, drop, Some, None, sym, refl, ap, ◌∙◌, inl, inr, arith, append_assoc, append-nil, length-append, ◌+◌, ◌≤◌, not-suc-le-zero, one-add}
+use Rattle.std.proofs.lemmas.Bool.{cases_Bool}
+use Rattle.std.proofs.lemmas.List.{drop_all}
+use Rattle.std.proofs.lemmas.List.Quantifiers.{position-Some}
+use Rattle.std.proofs.lemmas.Grind.{common_steps}
+use Rattle.std.specs.List.{position_or_len, take_while}
+use Rattle.text.specs.Field.{blank, ended, fields_behind, fields_of}
+
+-- a byte that is no blank
+abbrev other : ℕ → Bool
+other byte = not (blank byte)
+
+-- how many bytes stand before the first blank
+abbrev run_len : List ℕ → ℕ
+run_len bs = length (take_while other bs)
 
 -- blanks at the front are passed over
-blanks_passed : (n : ℕ) (bs : List ℕ) → n ≤ length bs → ((k : ℕ) → k < n → blank (get_or bs k 0) ≡ true) → fields_of bs ≡ fields_of (drop n bs)
-blanks_passed zero bs within all = refl
-blanks_passed (suc n) [] within all = absurd (not-suc-le-zero within)
-blanks_passed (suc n) (b ∷ bs) within all =
-    cond-true (blank b) (fields_of bs) (fields_behind (b ∷ []) bs) (all 0 (zero-lt-suc n)) ∙ blanks_passed n bs (omega arith) (λ k h. all (suc k) (omega arith))
+blanks_passed : (bs : List ℕ) → fields_of bs ≡ fields_of (drop (position_or_len other bs) bs)
+blanks_passed [] = refl
+blanks_passed (b ∷ bs) = elim (cases_Bool (blank b)) [ inl e ↦ simp (e, one-add) (blanks_passed bs) | inr e ↦ simp e ]
 
--- other bytes are added to the run
-run_grows : (n : ℕ) (run bs : List ℕ) → n ≤ length bs → ((k : ℕ) → k < n → blank (get_or bs k 0) ≡ false) → fields_behind run bs ≡ fields_behind (run ++ take n bs) (drop n bs)
-run_grows zero run bs within all = ap (λ r. fields_behind r bs) (sym (append-nil run))
-run_grows (suc n) run [] within all = absurd (not-suc-le-zero within)
-run_grows (suc n) run (b ∷ bs) within all =
-    cond-false (blank b) (ended run ++ fields_of bs) (fields_behind (run ++ b ∷ []) bs) (all 0 (zero-lt-suc n))
-    ∙ run_grows n (run ++ b ∷ []) bs (omega arith) (λ k h. all (suc k) (omega arith))
-    ∙ ap (λ r. fields_behind r (drop n bs)) (append_assoc run (b ∷ []) (take n bs))
+-- a run goes on to the first blank, or to the end of the line
+run_ends : (run bs : List ℕ) → fields_behind run bs ≡ ended (run ++ take (run_len bs) bs) ++ fields_of (drop (run_len bs) bs)
+run_ends run [] = simp append-nil
+run_ends run (b ∷ bs) =
+    elim (cases_Bool (blank b)) [ inl e ↦ simp (e, append-nil) | inr e ↦ simp (e, one-add) (simp append_assoc at (run_ends (run ++ b ∷ []) bs)) ]
 
--- at a blank, and at the end of the line, the run ends
-run_ends : (run bs : List ℕ) → (0 < length bs → blank (get_or bs 0 0) ≡ true) → fields_behind run bs ≡ ended run ++ fields_of bs
-run_ends run [] stops = sym (append-nil (ended run))
-run_ends run (b ∷ bs) stops =
-    let here = stops (zero-lt-suc (length bs)) in
-    cond-true (blank b) (ended run ++ fields_of bs) (fields_behind (run ++ b ∷ []) bs) here
-    ∙ ap (λ fs. ended run ++ fs) (sym (cond-true (blank b) (fields_of bs) (fields_behind (b ∷ []) bs) here))
+-- a line that begins with a field
+field_first : (bs : List ℕ) → 0 < length bs → blank (get_or bs 0 0) ≡ false → fields_of bs ≡ take (run_len bs) bs ∷ fields_of (drop (run_len bs) bs)
+field_first [] some e = absurd (not-suc-le-zero some)
+field_first (b ∷ bs) some e = simp (e, one-add) (run_ends (b ∷ []) bs)
 
--- a run that is not empty is a field
-ended_some : (run : List ℕ) → 0 < length run → ended run ≡ run ∷ []
-ended_some [] some = absurd (not-suc-le-zero some)
-ended_some (b ∷ bs) some = refl
+-- a line of blanks alone
+pub no_field : (line : List ℕ) → None ≡ position other line → fields_of line ≡ []
+no_field line e = blanks_passed line ∙ ap fields_of (drop_all (position_or_len other line) line (grind (arith, common_steps, e)))
 
-none_left : (bs : List ℕ) → length bs ≡ 0 → bs ≡ []
-none_left [] e = refl
-none_left (b ∷ bs) e = absurd (suc-ne-zero (length bs) e)
+-- a line whose first byte that is no blank stands at n
+pub one_field : (line : List ℕ) (n : ℕ) → Some n ≡ position other line → let rest = drop n line in fields_of line ≡ take (run_len rest) rest ∷ fields_of (drop (run_len rest) rest)
+one_field line n e =
+    let is : position_or_len other line ≡ n = grind (arith, common_steps, e) in
+    let at = position-Some other line n 0 (sym e) in
+    (rw is at (blanks_passed line)) ∙ field_first (drop n line) (grind (arith, common_steps, at)) (grind (arith, common_steps, at))
 
--- m blanks at the front of a line, and then the n bytes of a field
-module _ (line rest field after : List ℕ) (m n : ℕ)
-    (blanks : Front true line m) (rest_is : rest ≡ drop m line)
-    (others : Front false rest n) (field_is : field ≡ take n rest) (after_is : after ≡ drop n rest) where
-  passed : fields_of line ≡ fields_of rest
-  passed = blanks_passed m line blanks.within blanks.alike ∙ ap fields_of (sym rest_is)
+-- a line has no more fields than bytes
+ended_le : (run : List ℕ) → length (ended run) ≤ 1
+ended_le [] = omega arith
+ended_le (b ∷ bs) = omega arith
 
-  cut : fields_of line ≡ ended field ++ fields_of after
-  cut =
-      passed ∙ run_grows n [] rest others.within others.alike
-      ∙ run_ends (take n rest) (drop n rest)
-      (λ some. ap blank (get_or-drop n rest 0 0) ∙ ap (λ k. blank (get_or rest k 0)) (add-zero n) ∙ others.stops (let e = length-drop n rest in omega arith))
-      ∙ ap₂ (λ f a. ended f ++ fields_of a) (sym field_is) (sym after_is)
+behind_le : (run bs : List ℕ) → length (fields_behind run bs) ≤ length (ended run) + length bs
+behind_le run [] = omega arith
+behind_le run (b ∷ bs) = elim (cases_Bool (blank b)) [
+  | inl e ↦ let rest = behind_le [] bs in simp (e, length-append) (omega arith)
+  | inr e ↦ let rest = behind_le (run ++ b ∷ []) bs in let one = ended_le (run ++ b ∷ []) in simp e (omega arith)
+]
 
-  pub one_field : 0 < length field → fields_of line ≡ field ∷ fields_of after
-  one_field some = cut ∙ ap (λ fs. fs ++ fields_of after) (ended_some field some)
-
-  -- a field is empty only at the end of the line
-  no_rest : n ≡ 0 → rest ≡ []
-  no_rest e =
-      ⊎_elim
-      (λ some.
-      let at : m ≡ m + n = omega arith in
-      let here : blank (get_or line m 0) ≡ true =
-      ap (λ k. blank (get_or line k 0)) at ∙ ap blank (sym (get_or-drop m line n 0) ∙ ap (λ bs. get_or bs n 0) (sym rest_is)) ∙ others.stops (omega arith) in
-      absurd (both_ways (blank (get_or line m 0)) (blanks.stops (let l = length-drop m line in let r = ap length rest_is in omega arith)) here))
-      (λ none. none_left rest (omega arith))
-      (cases_lt 0 (length rest))
-
-  pub no_field : length field ≡ 0 → (fields_of line ≡ []) × (fields_of after ≡ [])
-  no_field none =
-      let e : n ≡ 0 = sym (ap length field_is ∙ length-take-le n rest others.within) ∙ none in
-      (passed ∙ ap fields_of (no_rest e), ap fields_of after_is ∙ ap₂ (λ k r. fields_of (drop k r)) e (no_rest e))
+pub fields_le : (line : List ℕ) → length (fields_of line) ≤ length line
+fields_le line = let le = behind_le [] line in omega arith

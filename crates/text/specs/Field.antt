@@ -1,5 +1,5 @@
 -- The fields of a line.
-use Rattle.std.specs.Prelude.{◌≡◌, ℕ, ◌<◌, ◌≤◌, Bool, cond, not, ◌||◌, List, [], ◌∷◌, ◌++◌, length, ◌==◌, slice_index}
+use Rattle.std.specs.Prelude.{ℕ, Bool, cond, ◌||◌, List, [], ◌∷◌, ◌++◌, ◌==◌}
 
 -- Blanks: the space, the tab, and what ends a line, which is a line feed, on some systems behind a carriage return.
 abbrev pub blank : ℕ → Bool
@@ -18,9 +18,3 @@ fields_behind run (b ∷ bs) = cond (blank b) (ended run ++ fields_behind [] bs)
 -- The fields of a line, in order: its longest runs of bytes that are no blanks.
 abbrev pub fields_of : List ℕ → List (List ℕ)
 fields_of line = fields_behind [] line
-
--- The longest front of a list of bytes that are blanks, or that are none, has n bytes.
-pub record Front (blanks : Bool) (bytes : List ℕ) (n : ℕ) : Type 0 where
-  pub within : n ≤ length bytes
-  pub alike : (k : ℕ) → k < n → blank (slice_index bytes k) ≡ blanks
-  pub stops : n < length bytes → blank (slice_index bytes n) ≡ not blanks

@@ -1,6 +1,8 @@
-// The fields of a line, one after another.
-ghost use Rattle.std.specs.Prelude.{◌≡◌, ◌<◌, [], ◌∷◌, length, MatchOption};
-ghost use Rattle.text.specs.Field.{blank, fields_of, Front};
+// The fields of a line.
+ghost use Rattle.std.specs.Prelude.{◌≡◌, not, [], ◌∷◌, length, position, MatchOption};
+ghost use Rattle.std.specs.Iterator.{YieldsFirstRef, item_count};
+ghost use Rattle.std.specs.List.{take_while};
+ghost use Rattle.text.specs.Field.{blank, fields_of};
 
 fn is_blank(byte: u8) -> bool
     ensures { result ≡ blank byte }
@@ -8,29 +10,22 @@ fn is_blank(byte: u8) -> bool
     matches!(byte, b' ' | b'\t' | b'\n' | b'\r')
 }
 
-// How many bytes at the front are blanks, or are none.
-fn run(bytes: &[u8], blanks: bool) -> usize
-    ensures { Front blanks bytes.now result }
+// Where the first field of a line begins, if there is one.
+fn field_start(line: &[u8]) -> Option<usize>
+    ensures { result ≡ position (λ byte. not (blank byte)) line.now }
 {
-    for (i, byte) in bytes.iter().enumerate() {
-        if is_blank(*byte) != blanks {
-            return i;
-        }
-    }
-    bytes.len()
+    line.iter().position(|byte| !is_blank(*byte))
 }
 
-// The first field of a line, which is empty where there is none, and what follows it.
-fn cut(line: &[u8]) -> (&[u8], &[u8])
-    ensures none { length result.0.now ≡ 0 → (fields_of line.now ≡ []) × (fields_of result.1.now ≡ []) }
-    ensures some { 0 < length result.0.now → fields_of line.now ≡ result.0.now ∷ fields_of result.1.now }
+// How many bytes the field at the front of a line has.
+fn field_len(line: &[u8]) -> usize
+    ensures { result ≡ length (take_while (λ byte. not (blank byte)) line.now) }
 {
-    let (_, line) = line.split_at(run(line, true));
-    line.split_at(run(line, false))
+    line.iter().take_while(|byte| !is_blank(**byte)).count()
 }
 
-/// The fields of a line that are still to be taken.
-#[derive(Clone, Copy)]
+/// The fields of a line that are still to be taken, one after another.
+#[derive(Clone, Copy, Debug)]
 pub struct Fields<'a> {
     rest: &'a [u8],
 }
@@ -42,15 +37,21 @@ impl<'a> Fields<'a> {
     {
         Fields { rest: line }
     }
+}
 
-    /// The next field, or nothing where none is left.
-    pub fn take_next(&mut self) -> Option<&'a [u8]>
-        ensures { MatchOption result
-            ((fields_of self.old.rest.now ≡ []) × (fields_of self.new.rest.now ≡ []))
-            (λ field. fields_of self.old.rest.now ≡ field.now ∷ fields_of self.new.rest.now) }
-    {
-        let (field, rest) = cut(self.rest);
+impl<'a> Iterator for Fields<'a> {
+    type Item = &'a [u8];
+
+    ghost next_gives = { YieldsFirstRef (λ s. fields_of s.rest.now) };
+
+    ghost remaining = { item_count (λ s. fields_of s.rest.now) };
+
+    #[tactic(auto, using(crate::proofs::Cutting::no_field, crate::proofs::Cutting::one_field))]
+    fn next(&mut self) -> Option<&'a [u8]> {
+        let start = field_start(self.rest)?;
+        let (_, line) = self.rest.split_at(start);
+        let (field, rest) = line.split_at(field_len(line));
         self.rest = rest;
-        if field.is_empty() { None } else { Some(field) }
+        Some(field)
     }
 }

@@ -2,26 +2,11 @@
 ghost use Rattle.std.specs.Prelude.{◌≡◌};
 ghost use Rattle.text.specs.Number.{digit_of, appended, number_in};
 
-// The value of a digit, up to those of base 16.
-fn digit(byte: u8) -> Option<u32>
-    ensures { result ≡ digit_of byte }
-{
-    match byte {
-        b'0'..=b'9' => Some(u32::from(byte - b'0')),
-        b'A'..=b'F' => Some(u32::from(byte - b'A') + 10),
-        b'a'..=b'f' => Some(u32::from(byte - b'a') + 10),
-        _ => None,
-    }
-}
-
 // The number with one digit more behind it.
 fn append(base: u32, number: u32, byte: u8) -> Option<u32>
     ensures { result ≡ appended base number (digit_of byte) }
 {
-    let digit = digit(byte)?;
-    if digit >= base {
-        return None;
-    }
+    let digit = char::from(byte).to_digit(16).filter(|digit| *digit < base)?;
     number.checked_mul(base)?.checked_add(digit)
 }
 
@@ -33,9 +18,7 @@ pub fn number(base: u32, field: &[u8]) -> Option<u32>
     if field.is_empty() {
         return None;
     }
-    let mut number = 0;
-    for byte in field {
-        number = append(base, number, *byte)?;
-    }
-    Some(number)
+    field
+        .iter()
+        .try_fold(0, |number, byte| append(base, number, *byte))
 }

@@ -1,5 +1,6 @@
 -- Words worked out by hand.
 use Rattle.std.specs.Prelude.{◌≡◌, ℕ, Bool, true, not, ◌&&◌, List, [], ◌∷◌, Some, None, Option, ◌==◌}
+use Rattle.std.specs.List.{list_all}
 use Rattle.coding.specs.Word.{word_of, checks}
 
 -- A number, and the content whose word it is, if it is one. 60015 is an acknowledgement unit with no indicator set, which
@@ -16,8 +17,7 @@ agrees number (Some content) = word_of content == number && checks number
 agrees number None = not (checks number)
 
 abbrev pub all_agree : List (ℕ × Option ℕ) → Bool
-all_agree [] = true
-all_agree (row ∷ rows) = agrees row.0 row.1 && all_agree rows
+all_agree rows = list_all (λ row. agrees row.0 row.1) rows
 
 abbrev pub ExamplesAgree : Type 0
 ExamplesAgree = all_agree examples ≡ true

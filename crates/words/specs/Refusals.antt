@@ -1,5 +1,5 @@
--- The refusals by number, and how contracts speak of an answer.
-use Rattle.std.specs.Prelude.{ℕ, Ok, Err, Result}
+-- The refusals by number.
+use Rattle.std.specs.Prelude.{ℕ}
 use Rattle.words.specs.declared.refusals.Refusal.{Refusal}
 use Rattle.words.specs.declared.refusals.Refusal.TheVariants.{OutOfTurn, Settings, DelaysTooLong, OutOfRange, WrongLength, ReservedContent, LimitPassed, HoldFull, NothingThere, BlockFull}
 
@@ -15,8 +15,3 @@ number_of LimitPassed = 7
 number_of HoldFull = 8
 number_of NothingThere = 9
 number_of BlockFull = 10
-
--- What a call answered: the value, as `shown` tells it, or the number of the refusal.
-abbrev pub answered : {X Y : Type 0} → (X → Y) → Result X Refusal → Result Y ℕ
-answered shown (Ok x) = Ok (shown x)
-answered shown (Err e) = Err (number_of e)

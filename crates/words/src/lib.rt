@@ -3,10 +3,8 @@
 
 mod codec;
 mod examples;
-mod parts;
 mod refusals;
 
-pub use codec::{Reading, invert_last_bit, read};
+pub use codec::{Content, invert_last_bit, read};
 pub use examples::read_examples;
-pub use parts::Content;
 pub use refusals::Refusal;

@@ -3,7 +3,7 @@ ghost use Rattle.std.specs.Prelude.{◌≡◌};
 ghost use Rattle.words.specs.Refusals.{number_of};
 
 /// Why a call was refused. A refused call alters nothing.
-#[derive(Clone, Copy)]
+#[derive(Clone, Copy, Debug, PartialEq, Eq)]
 pub enum Refusal {
     /// A call before opening, or a second opening.
     OutOfTurn = 1,
@@ -27,12 +27,13 @@ pub enum Refusal {
     BlockFull = 10,
 }
 
-impl Refusal {
-    /// The number by which the refusal is known outside.
-    pub fn number(self) -> u32
-        ensures value { result ≡ number_of self }
-        ensures only { (other : Refusal) → number_of other ≡ result → other ≡ self }
-    {
-        self as u32
+/// The number by which the refusal is known outside.
+impl From<Refusal> for u32 {
+    ghost use Rattle.words.specs.declared.refusals.Refusal.{Refusal};
+
+    ghost from_gives = { λ refusal number. (number ≡ number_of refusal) × ((other : Refusal) → number_of other ≡ number → other ≡ refusal) };
+
+    fn from(refusal: Refusal) -> u32 {
+        refusal as u32
     }
 }

@@ -1,15 +1,11 @@
-use Rattle.std.proofs.Common.{◌≡◌, ◌+◌, length, Ok}
-use Rattle.blocks.specs.Put.{contents_in}
-use Rattle.text.specs.Field.{fields_of}
+use Rattle.std.proofs.Common.{◌≡◌, ◌+◌, ◌≤◌, length, Ok}
 use Rattle.orders.specs.Order.{put_fields, contents_line}
+use Rattle.text.specs.Field.{fields_of}
 use Rattle.orders.proofs.reading.contents_line.Given as goal
 
--- the fields that are left make the answer of the whole line
+-- what is left of the fields makes of the block what the whole line makes; the next place is one behind what was put, which is
+-- eleven contents at most
 abbrev pub invariant-loop-field : goal.invariant-loop-field
 invariant-loop-field l =
-    (put_fields l.place (Ok (contents_in l.block)) (fields_of l.fields.rest.now) ≡ contents_line l.line)
-    × (l.block.codes ≡ l.initial.block.codes)
-    × (l.place ≡ length (contents_in l.block) + 1)
-
-abbrev pub decreases-loop-field : goal.decreases-loop-field
-decreases-loop-field l = length (fields_of l.fields.rest.now)
+    (put_fields l.field-iterator.b.start (Ok l.block) (fields_of l.field-iterator.a.rest.now) ≡ contents_line l.fn.codes l.line)
+    × (l.field-iterator.b.start ≡ length l.block.contents + 1) × (length l.block.contents ≤ 11)
