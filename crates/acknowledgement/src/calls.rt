@@ -43,6 +43,15 @@ impl TryFrom<AcuFields> for Acu {
     }
 }
 
+/// The fields of the ACU, each of which is short enough for its bits.
+impl From<Acu> for AcuFields {
+    ghost from_gives = { λ acu fields. (fields ≡ acu) × (short fields ≡ true) };
+
+    fn from(acu: Acu) -> AcuFields {
+        acu.fields
+    }
+}
+
 impl Acu {
     /// The content of the ACU.
     pub fn content(self) -> Content

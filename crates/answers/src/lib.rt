@@ -1,4 +1,4 @@
-// Answers to an order: what was seen of the block that was sent, or what is wrong with the order.
+// Answers to an order: what was seen of the block that was sent, or what is wrong with the order, and how each is printed.
 #![tactic(auto)]
 
 mod counting;

@@ -1,4 +1,4 @@
-// How an answer is printed.
+// How an answer is printed. Each `Display` is written out, since one that a derive writes states no output.
 ghost use Rattle.std.specs.Prelude.{Some};
 ghost use Rattle.answers.specs.Print.{place_text, report_text, trouble_text, fault_line, answer_text};
 
@@ -61,6 +61,7 @@ impl fmt::Display for Fault {
     }
 }
 
+// A type of its own: `Display` cannot be written for a `Result`.
 /// What is printed of the answer to an order: a line for each of the twelve places and one for how many arrived good, or a
 /// line that says what is wrong with the order.
 #[derive(Debug, Drop)]

@@ -1,9 +1,9 @@
 -- Blocks: eleven units, and then an acknowledgement unit (ACU).
-use Rattle.std.specs.Prelude.{ℕ, ◌+◌, ◌-◌, ◌/◌, ◌^◌, Bool, cond, ◌&&◌, List, [], ◌∷◌, ◌++◌, map, length, Ok, Err, Result, ◌==◌, nat_lt, slice_index}
+use Rattle.std.specs.Prelude.{ℕ, ◌+◌, ◌-◌, ◌/◌, ◌^◌, Bool, cond, ◌&&◌, List, [], ◌∷◌, ◌++◌, map, length, Ok, Err, Result, ◌==◌, nat_le, nat_lt, slice_index}
 use Rattle.std.specs.List.{list_all, range_with_len}
 use Rattle.coding.specs.Bits.{bits}
 use Rattle.coding.specs.Word.{word_of, checks}
-use Rattle.reserved.specs.Reserved.{syu_of}
+use Rattle.reserved.specs.Reserved.{acceptable, syu_of}
 use Rattle.reserved.specs.declared.numbers.CodeNumbers.{CodeNumbers}
 use Rattle.words.specs.declared.refusals.Refusal.{Refusal}
 use Rattle.words.specs.declared.refusals.Refusal.TheVariants.{OutOfRange, BlockFull}
@@ -12,6 +12,10 @@ use Rattle.words.specs.declared.refusals.Refusal.TheVariants.{OutOfRange, BlockF
 pub record Opened : Type 0 where
   pub codes : CodeNumbers
   pub contents : List ℕ
+
+-- What holds of every open block: its codes are acceptable, and it has eleven contents at most, each of twenty bits.
+abbrev pub proper : Opened → Bool
+proper b = acceptable b.codes && nat_le (length b.contents) 11 && list_all (λ content. nat_lt content (2 ^ 20)) b.contents
 
 -- Putting one content more into an open block: the block then, or the refusal. A content from 2^20 on is out of its range, and
 -- then a block with eleven contents is full.

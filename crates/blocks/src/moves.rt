@@ -1,7 +1,7 @@
 // From an open block to a closed one, and on to the line.
 ghost use Rattle.std.specs.Prelude.{◌≡◌, ◌<◌, ◌≤◌, true, [], List, ℕ, map, length, Some, Ok, OnErr, slice_index};
 ghost use Rattle.acknowledgement.specs.Acu.{acu_of};
-ghost use Rattle.blocks.specs.Block.{Opened, leaving, putting, contents_of, block_of, sound};
+ghost use Rattle.blocks.specs.Block.{Opened, proper, leaving, putting, contents_of, block_of, sound};
 ghost use Rattle.coding.specs.Word.{word_of, reading_of};
 
 use acknowledgement::Acu;
@@ -23,7 +23,7 @@ impl Model for OpenBlock {
 
     ghost view = { λ block. record { codes = block.codes; contents = block.contents.items } };
 
-    ghost invariant = { λ block. length block.contents.items ≤ 11 };
+    ghost invariant = { λ block. proper (record { codes = block.codes; contents = block.contents.items }) ≡ true };
 }
 
 /// A block that is complete: twelve words that check, the acknowledgement unit's last. Clauses see the words.
@@ -55,16 +55,20 @@ impl OpenBlock {
     pub fn put(&mut self, content: u32) -> Result<(), Refusal>
         ensures answer { leaving self.new result ≡ putting content self.old }
         ensures same { OnErr result (self.new ≡ self.old) }
+        ensures proper { proper self.new ≡ true }
     {
+        // Asked first, so that the clause `proper` is known of a content that is out of its range, too.
+        let full = self.contents.is_full();
         let content = Content::try_from(content)?;
-        if self.contents.is_full() {
+        if full {
             return Err(Refusal::BlockFull);
         }
         self.contents.push(content);
         Ok(())
     }
 
-    // The content of a place of the closed block, counted from 0: what was put there, the place's SYU, or at the end the ACU.
+    // The content of a place of the closed block, counted from 0: what was put there, the place's SYU, or at the end the ACU. The
+    // clause `few` tells `close`, which uses no field itself, that the ACU has its place.
     #[tactic(auto, using(crate::proofs::Places::at_left, crate::proofs::Places::at_last))]
     fn content_at(&self, i: usize, acu: Content) -> Content
         requires { i < 12 }

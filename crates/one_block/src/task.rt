@@ -34,7 +34,8 @@ pub fn send_block(lines: Lines) -> Result<Report, Fault>
 
 /// The same as it is printed, from the bytes of the lines to the bytes of the answer.
 pub fn answer(lines: Lines) -> Printed
-    ensures { answer_text result.0 ≡ answer_text (reported (order_from codes_used lines.entry)) }
+    ensures value { result.0 ≡ reported (order_from codes_used lines.entry) }
+    ensures printed { answer_text result.0 ≡ answer_text (reported (order_from codes_used lines.entry)) }
 {
     Printed(send_block(lines))
 }

@@ -20,8 +20,8 @@ pub struct Order {
     pub marks: u32,
 }
 
-// How the digits of a field make a number. It is an enum and no closure: a definition can name it, where it could only speak of
-// what calls of a closure may answer.
+// How the digits of a field make a number. It is an enum and no closure: a definition can take a `Form`, and of a closure it could
+// only say what calls of it may answer.
 #[derive(Clone, Copy, Debug, PartialEq, Eq)]
 pub(crate) enum Form {
     // Exactly so many binary digits.

@@ -59,7 +59,7 @@ fn next_number(fields: &mut Fields, form: Form) -> Result<u32, Trouble>
 fn no_more(fields: &mut Fields) -> Result<(), Trouble>
     ensures { result ≡ end_next (fields_of fields.old.rest.now) }
 {
-    // two arms: a chain of `map_or` or `ok_or` would turn `None` into the good case, which reads no plainer
+    // A match: `ok_or` makes `Some` the `Ok`, where here it is `None`, and `map_or(Ok(()), |_| Err(..))` is no plainer.
     match fields.next() {
         None => Ok(()),
         Some(_) => Err(Trouble::Unclear),
@@ -83,7 +83,7 @@ fn acu_line(line: &[u8]) -> Result<Acu, Fault>
         acknowledged,
         number,
     };
-    Acu::try_from(fields).map_err(|refusal| Trouble::Refused(refusal).at(2, place))
+    Acu::try_from(fields).map_err(|refusal| Trouble::from(refusal).at(2, place))
 }
 
 // The third line: the marks.

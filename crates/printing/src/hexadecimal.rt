@@ -4,7 +4,8 @@ ghost use Rattle.printing.specs.Hex.{hex_of};
 
 use std::fmt;
 
-/// A number by its last hexadecimal digits, as many as the type says. It has eight at most: all that stand before are zeros.
+/// A number by its last hexadecimal digits, as many as the type says. A `u32` has eight; where the type says more, zeros stand
+/// before them.
 #[derive(Clone, Copy, Debug, PartialEq, Eq)]
 pub struct Hex<const DIGITS: usize>(pub u32);
 

@@ -4,7 +4,9 @@
 use anyhow::anyhow;
 use one_block::{Lines, answer};
 
-fn run(rt: &HostRuntime) -> anyhow::Result<()> {
+fn main(rt: HostRuntime) -> anyhow::Result<()> {
+    // The three lines are read as in `send_cases`. A function for both would stand in a crate below, and would read input and
+    // allocate, which only the programs do.
     let mut contents = String::new(rt.alloc());
     let mut acu = String::new(rt.alloc());
     let mut marks = String::new(rt.alloc());
@@ -19,8 +21,4 @@ fn run(rt: &HostRuntime) -> anyhow::Result<()> {
     print!(rt; "{answer}")?;
     answer.0.map_err(|_| anyhow!("the block was not sent"))?;
     Ok(())
-}
-
-fn main(rt: HostRuntime) -> anyhow::Result<()> {
-    run(&rt)
 }

@@ -4,7 +4,7 @@
 use one_block::{Lines, answer};
 use std::io;
 
-// No input has more orders than this.
+// No input has more orders than this. The bound is what makes the loop end, whatever is read.
 const MOST: u32 = 1_000_000;
 
 fn main(rt: HostRuntime) -> io::Result<()> {
@@ -15,6 +15,8 @@ fn main(rt: HostRuntime) -> io::Result<()> {
         contents.clear();
         acu.clear();
         marks.clear();
+        // The three lines are read as in `send_block`. A function for both would stand in a crate below, and would read input and
+        // allocate, which only the programs do.
         if rt.read_line(&mut contents)? == 0 {
             break;
         }

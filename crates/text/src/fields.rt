@@ -4,6 +4,7 @@ ghost use Rattle.std.specs.Iterator.{YieldsFirstRef, item_count};
 ghost use Rattle.std.specs.List.{take_while};
 ghost use Rattle.text.specs.Field.{blank, fields_of};
 
+// What ends a field. The library's `is_ascii_whitespace` also takes the form feed.
 fn is_blank(byte: u8) -> bool
     ensures { result ≡ blank byte }
 {
@@ -25,6 +26,8 @@ fn field_len(line: &[u8]) -> usize
 }
 
 /// The fields of a line that are still to be taken, one after another.
+// A struct of its own: an iterator by `split` and `filter` carries a closure, whose type no function can name as its result. It
+// has no model, for it may be copied, and a type with a lifetime that has a model may not be.
 #[derive(Clone, Copy, Debug)]
 pub struct Fields<'a> {
     rest: &'a [u8],

@@ -1,4 +1,4 @@
-use Rattle.std.proofs.Common.{◌≡◌, ◌+◌, map, length, get_or, refl, rules, ◌∙◌, ap}
+use Rattle.std.proofs.Common.{◌≡◌, ◌+◌, map, length, get_or, rules, ◌∙◌, ap}
 use Rattle.coding.specs.Word.{reading_of}
 use Rattle.std.proofs.lemmas.List.FromFn.{fill_by_all}
 use Rattle.blocks.proofs.Arrays.{each_given}
@@ -14,12 +14,8 @@ all_pass c =
     let words = c.send-words.result in
     fill_by_all (λ i. passage_of marks (i + 1) (get_or words i 0)) c.from_fn.result 12 (passage_of 0 0 0) c.from_fn.ensures.items.long
     (λ i h.
-    each_given _ (λ f. (f.0.now ≡ marks) × (f.1.now ≡ words)) (λ i a. a ≡ passage_of marks (i + 1) (get_or words i 0))
-    (λ f i a next h k.
-    let gives : a ≡ passage_of f.0.now (i + 1) (get_or f.1.now i 0) = search rules in
-    let keeps : (next.0.now ≡ f.0.now) × (next.1.now ≡ f.1.now) = search rules in
-    (rw (h.0, h.1) at gives, (keeps.0 ∙ h.0, keeps.1 ∙ h.1)))
-    c.from_fn.result _ 12 (refl, refl) c.from_fn.ensures.items i (passage_of 0 0 0) h)
+    each_given _ _ (λ i a. a ≡ passage_of marks (i + 1) (get_or words i 0)) (λ i a after k. search rules)
+    c.from_fn.result 12 c.from_fn.ensures.items i (passage_of 0 0 0) h)
 
 pub returns : goal.returns
 returns c =

@@ -1,4 +1,4 @@
-use Rattle.std.proofs.Common.{◌≡◌, ◌<◌, ◌≤◌, ℕ, true, map, arith, length, get_or, rules, refl, sym, ◌∙◌, Some}
+use Rattle.std.proofs.Common.{◌≡◌, ◌<◌, ◌≤◌, ℕ, true, map, arith, length, get_or, rules, sym, ◌∙◌, Some}
 use Rattle.std.proofs.lemmas.Bool.{eq-eqb}
 use Rattle.coding.specs.Word.{word_of, reading_of}
 use Rattle.blocks.specs.Block.{contents_of, block_of, is_acu}
@@ -6,21 +6,14 @@ use Rattle.blocks.proofs.Arrays.{each_given}
 use Rattle.blocks.proofs.Places.{twelve, words_made, words_read, reads_sound}
 use Rattle.blocks.proofs.moves.OpenBlock.close.Goals as goal
 
--- the block has room for the ACU, and each word is that of the content at its place, which can be read from it
-each : (c : goal.After-from_fn) (i : ℕ)
-    → i < 12
-    → (length c.args.self.contents ≤ 11) × (get_or c.from_fn.result i 0 ≡ word_of (get_or (contents_of c.args.self c.content-acu.result) i 0))
-    × (reading_of (get_or c.from_fn.result i 0) ≡ Some (get_or (contents_of c.args.self c.content-acu.result) i 0))
-each c i h =
-    let block = c.args.self in
-    let acu = c.content-acu.result in
-    each_given _ (λ f. (f.0.now ≡ block) × (f.1.now ≡ acu))
-    (λ i w. (length block.contents ≤ 11) × (w ≡ word_of (get_or (contents_of block acu) i 0)) × (reading_of w ≡ Some (get_or (contents_of block acu) i 0)))
-    (λ f i w next h k.
-    let gives : (length f.0.now.contents ≤ 11) × (w ≡ word_of (get_or (contents_of f.0.now f.1.now) i 0)) × (reading_of w ≡ Some (get_or (contents_of f.0.now f.1.now) i 0)) = search rules in
-    let keeps : (next.0.now ≡ f.0.now) × (next.1.now ≡ f.1.now) = search rules in
-    (rw (h.0, h.1) at gives, (keeps.0 ∙ h.0, keeps.1 ∙ h.1)))
-    c.from_fn.result _ 12 (refl, refl) c.from_fn.ensures.items i 0 h
+-- the block has room for the ACU, and w is the word of the content at place i, counted from 0, and can be read
+abbrev Made : goal.After-from_fn → ℕ → ℕ → Type 0
+Made c i w =
+    let content = get_or (contents_of c.args.self c.content-acu.result) i 0 in
+    (length c.args.self.contents ≤ 11) × (w ≡ word_of content) × (reading_of w ≡ Some content)
+
+each : (c : goal.After-from_fn) (i : ℕ) → i < 12 → Made c i (get_or c.from_fn.result i 0)
+each c = λ i h. each_given _ _ (Made c) (λ i w after k. search rules) c.from_fn.result 12 c.from_fn.ensures.items i 0 h
 
 words : (c : goal.After-from_fn) → c.from_fn.result ≡ block_of c.args.self c.content-acu.result
 words c =
