@@ -1,3 +1,4 @@
 pub mod Good
+pub mod Passage
 pub mod Print
 pub mod Troubled

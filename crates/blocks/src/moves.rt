@@ -1,5 +1,5 @@
 // From an open block to a closed one, and on to the line.
-ghost use Rattle.std.specs.Prelude.{◌≡◌, ◌<◌, ◌≤◌, true, [], List, ℕ, map, length, Some, Ok, OnErr, slice_index};
+ghost use Rattle.std.specs.Prelude.{◌≡◌, ◌<◌, ◌≤◌, true, [], List, ℕ, map, length, Some, Ok, OnErr, slice_index, nat_le};
 ghost use Rattle.acknowledgement.specs.Acu.{acu_of};
 ghost use Rattle.blocks.specs.Block.{Opened, proper, leaving, putting, contents_of, block_of, sound};
 ghost use Rattle.coding.specs.Word.{word_of, reading_of};
@@ -58,13 +58,22 @@ impl OpenBlock {
         ensures proper { proper self.new ≡ true }
     {
         // Asked first, so that the clause `proper` is known of a content that is out of its range, too.
-        let full = self.contents.is_full();
+        let full = self.is_full();
         let content = Content::try_from(content)?;
         if full {
             return Err(Refusal::BlockFull);
         }
         self.contents.push(content);
         Ok(())
+    }
+
+    /// Whether eleven contents stand already. The clause `proper` tells what holds of every open block to a caller that has no more
+    /// than a reference to one.
+    pub fn is_full(&self) -> bool
+        ensures full { result ≡ nat_le 11 (length self.now.contents) }
+        ensures proper { proper self.now ≡ true }
+    {
+        self.contents.is_full()
     }
 
     // The content of a place of the closed block, counted from 0: what was put there, the place's SYU, or at the end the ACU. The
@@ -95,6 +104,16 @@ impl OpenBlock {
 }
 
 impl ClosedBlock {
+    /// The word of the block's ACU, which is not used up. The clause `sound` tells what holds of every closed block to a caller that
+    /// has no more than a reference to one.
+    pub fn acu_word(&self) -> u32
+        ensures value { result ≡ slice_index self.now 11 }
+        ensures sound { sound self.now ≡ true }
+    {
+        let [.., acu] = self.words;
+        acu
+    }
+
     /// The twelve words of the block, which is used up.
     pub fn send(self) -> [u32; 12]
         ensures value { result ≡ self }

@@ -26,16 +26,16 @@ fn agrees(content: u32, entry: &[u8]) -> bool
         == Some(remainder_in_word(content)))
 }
 
-#[tactic(auto, using(text::proofs::Cutting::fields_le))]
 fn main(rt: HostRuntime) -> anyhow::Result<()> {
     let mut table = String::new(rt.alloc());
     rt.stdin().read_to_string(&mut table)?;
-    let entries = Fields::of(table.as_bytes());
-    let all = entries.count();
-    let agreeing = entries
+    // One pass over the table, since its fields are cut as they are taken. Each count stops at the largest `u32`.
+    let (all, agreeing) = Fields::of(table.as_bytes())
         .zip(0..)
-        .filter(|(entry, content)| agrees(*content, entry))
-        .count();
+        .fold((0_u32, 0_u32), |(all, agreeing), (entry, content)| {
+            let agree = u32::from(agrees(content, entry));
+            (all.saturating_add(1), agreeing.saturating_add(agree))
+        });
     println!(rt; "{all} entries, {agreeing} agree")?;
     Ok(())
 }

@@ -51,7 +51,11 @@ impl<'a> Iterator for Fields<'a> {
 
     #[tactic(auto, using(crate::proofs::Cutting::no_field, crate::proofs::Cutting::one_field))]
     fn next(&mut self) -> Option<&'a [u8]> {
-        let start = field_start(self.rest)?;
+        // Where no field is left, the blanks at the end are not gone over again.
+        let Some(start) = field_start(self.rest) else {
+            self.rest = &[];
+            return None;
+        };
         let (_, line) = self.rest.split_at(start);
         let (field, rest) = line.split_at(field_len(line));
         self.rest = rest;
