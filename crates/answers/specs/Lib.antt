@@ -1,4 +1,3 @@
 pub mod Good
-pub mod Passage
 pub mod Print
 pub mod Troubled

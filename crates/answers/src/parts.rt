@@ -13,18 +13,6 @@ pub struct Arrival {
     pub reading: Option<Content>,
 }
 
-// The same fields once more, as a model: a struct that holds a `Content`, which has one, is copied where it is passed by value only if
-// it has a model of its own.
-impl Model for Arrival {
-    ghost use Rattle.answers.specs.Passage.{Passage};
-
-    ghost Value = { Passage };
-
-    ghost view = { λ a. record { place = a.place; sent = a.sent; arrived = a.arrived; reading = a.reading } };
-
-    ghost inverse = { λ p. record { place = p.place; sent = p.sent; arrived = p.arrived; reading = p.reading } };
-}
-
 /// What was seen at the twelve places of a block. Clauses see the arrivals, in the order of the places.
 #[derive(Debug, Drop)]
 pub struct Report {

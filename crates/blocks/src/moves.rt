@@ -104,8 +104,8 @@ impl OpenBlock {
 }
 
 impl ClosedBlock {
-    /// The word of the block's ACU, which is not used up. The clause `sound` tells what holds of every closed block to a caller that
-    /// has no more than a reference to one.
+    /// The word of the ACU. The block is not used up, and the clause `sound` tells what holds of every closed block to a caller that has
+    /// no more than a reference to one.
     pub fn acu_word(&self) -> u32
         ensures value { result ≡ slice_index self.now 11 }
         ensures sound { sound self.now ≡ true }

@@ -22,8 +22,10 @@ fn remainder_in_word(content: Content) -> u32
 fn agrees(content: u32, entry: &[u8]) -> bool
     ensures { result ≡ nat_lt content (2 ^ 20) && shows_remainder content (number_in 16 entry.now) }
 {
-    Content::try_from(content).is_ok_and(|content| number(16, entry)
-        == Some(remainder_in_word(content)))
+    // The remainder is worked out only for an entry that is a number.
+    Content::try_from(content).is_ok_and(|content| number(16, entry).is_some_and(
+        |remainder| remainder == remainder_in_word(content),
+    ))
 }
 
 fn main(rt: HostRuntime) -> anyhow::Result<()> {
